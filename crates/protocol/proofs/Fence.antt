@@ -1,0 +1,144 @@
+-- Marked boundaries keep regions apart.
+use mathlib.Core.Path.{_≡_, refl, sym, ap, _∙_, subst}
+use mathlib.Core.Logic.{_⊎_, inl, inr, ⊎-elim, _≢_}
+use mathlib.Core.Bool.{Bool, true, false, cond, _&&_, _||_}
+use Prim.Native.Nat.{ℕ, zero, suc, _+_, _≤_, _<_, pred}
+use native.Mathlib.Omega.{arith}
+use lib.Dec.{eqb, ltb, leb}
+use Rattle.std.proofs.shelf.Tests.{cases-lt, cases-eq, both-ways}
+use Rattle.std.proofs.shelf.Ways.{tells}
+use Rattle.protocol.specs.Machine.{Kind, Rank, before, same, after, Content, empty, holds, occ, upd, Versus, none, is, versus, Answer, found, inserted, full, from-right, Stage, idle, home, look, left, right, first, second, back, check, shift, unleft, unright, answered, Side, leftward, rightward, cell}
+use Rattle.protocol.proofs.Flow.{holder}
+use Rattle.protocol.proofs.Basics.{upd-same, upd-at, upd-other, not-both, holds-occ}
+use Rattle.protocol.proofs.Inv.{Owner, free, by, taken, is-by, is-by-true, by-inj, Keeps, In-shift, Solid, Region, Checking, Shifting-left, Shifting-right, Good, Core, own, marked-by}
+
+pub hold-l : (N l r : ℕ) → 0 < l → l ≤ N → ((eqb l l || eqb l r) && cell N l) ≡ true
+hold-l N l r a b = grind arith
+
+pub hold-r : (N l r : ℕ) → 0 < r → r ≤ N → ((eqb r l || eqb r r) && cell N r) ≡ true
+hold-r N l r a b = grind arith
+
+pub hold-one : (N l p : ℕ) → p ≡ l → 0 < p → p ≤ N → (eqb p l && cell N p) ≡ true
+hold-one N l p e a b = grind arith
+
+module _ {K : Type 0} {N : ℕ} (κ : Kind K N) {T : ℕ → Content K} {M : ℕ → Bool} {O : ℕ → Owner} {ky : ℕ → K} {st : ℕ → Stage} {S : ℕ → Content K} (c : Core κ T M O ky st S) where
+  pub good-at : (t : ℕ) (x : Stage) → st t ≡ x → Good κ T M S (ky t) x
+  good-at t x e = subst (λ y. Good κ T M S (ky t) y) e (c .good t)
+
+  -- the region of t and its marks
+  pub record Fence (t l r : ℕ) : Type 0 where
+    pub region : Region κ T M (ky t) l r
+    pub own-l : 0 < l → O l ≡ by t
+    pub own-r : r ≤ N → O r ≡ by t
+
+  fence : (t l r : ℕ) (x : Stage) → st t ≡ x → ((p : ℕ) → holder N x p ≡ ((eqb p l || eqb p r) && cell N p)) → Region κ T M (ky t) l r → Fence t l r
+  fence t l r x e ho g =
+      let a = g .l-h in let b = g .h-r in let h = κ .place-high (ky t) in let h′ = κ .place-low (ky t) in
+      record {
+        region = g;
+        own-l = λ z. own κ c t x e l (ho l ∙ hold-l N l r z (omega arith));
+        own-r = λ z. own κ c t x e r (ho r ∙ hold-r N l r (omega arith) z);
+      }
+
+  pub fence-check : (t l r p : ℕ) → st t ≡ check l r p → Fence t l r
+  fence-check t l r p e = fence t l r (check l r p) e (λ q. refl) (good-at t (check l r p) e .region)
+
+  pub fence-left : (t l r g : ℕ) → st t ≡ shift leftward l r g → Fence t l r
+  fence-left t l r g e = fence t l r (shift leftward l r g) e (λ q. refl) (good-at t (shift leftward l r g) e .region)
+
+  pub fence-right : (t l r g : ℕ) → st t ≡ shift rightward l r g → Fence t l r
+  fence-right t l r g e = fence t l r (shift rightward l r g) e (λ q. refl) (good-at t (shift rightward l r g) e .region)
+
+  -- a region around p, with a cell for a boundary
+  pub record Around (t p : ℕ) : Type 0 where
+    pub l : ℕ
+    pub r : ℕ
+    pub fenced : Fence t l r
+    pub some-cell : (0 < l) ⊎ (r ≤ N)
+    pub l-p : l ≤ p
+    pub p-r : p ≤ r
+
+  pub around : (t p : ℕ) → In-shift (st t) p → Around t p
+  around t p h = go (st t) refl h
+    where
+      go : (x : Stage) → st t ≡ x → In-shift x p → Around t p
+      go idle e h = absurd h
+      go home e h = absurd h
+      go (look q) e h = absurd h
+      go (left q) e h = absurd h
+      go (right l q) e h = absurd h
+      go (first l r) e h = absurd h
+      go (second l r) e h = absurd h
+      go (back l) e h = absurd h
+      go (check l r q) e h = absurd h
+      go (shift leftward l r g) e h = record { l = l; r = r; fenced = fence-left t l r g e; some-cell = inr (good-at t (shift leftward l r g) e .cell-r); l-p = h .0; p-r = h .1 }
+      go (shift rightward l r g) e h = record { l = l; r = r; fenced = fence-right t l r g e; some-cell = inl (good-at t (shift rightward l r g) e .cell-l); l-p = h .0; p-r = h .1 }
+      go (unleft l r a) e h = absurd h
+      go (unright r a) e h = absurd h
+      go (answered a) e h = absurd h
+
+  -- what t relies on is marked by it, or in its region
+  pub relied : (t p : ℕ) → Keeps (st t) p → (0 < p → p ≤ N → O p ≡ by t) ⊎ ((l : ℕ) × (r : ℕ) × Fence t l r × (l ≤ p) × (p ≤ r))
+  relied t p h = go (st t) refl h
+    where
+      go : (x : Stage) → st t ≡ x → Keeps x p → (0 < p → p ≤ N → O p ≡ by t) ⊎ ((l : ℕ) × (r : ℕ) × Fence t l r × (l ≤ p) × (p ≤ r))
+      go idle e h = absurd h
+      go home e h = absurd h
+      go (look q) e h = absurd h
+      go (left q) e h = absurd h
+      go (right l q) e h = absurd h
+      go (first l r) e h = absurd h
+      go (second l r) e h = inl (λ a b. own κ c t (second l r) e p (hold-one N l p h a b))
+      go (back l) e h = absurd h
+      go (check l r q) e h = inr (l, r, fence-check t l r q e, h .0, h .1)
+      go (shift leftward l r g) e h = inr (l, r, fence-left t l r g e, h .0, h .1)
+      go (shift rightward l r g) e h = inr (l, r, fence-right t l r g e, h .0, h .1)
+      go (unleft l r a) e h = absurd h
+      go (unright r a) e h = absurd h
+      go (answered a) e h = absurd h
+
+  -- the mark of another is not in the region
+  pub outside : (s t l r p : ℕ) → s ≢ t → Fence t l r → O p ≡ by s → 0 < p → p ≤ N → l ≤ p → p ≤ r → ⊥
+  outside s t l r p n f o a b lp pr =
+      ⊎-elim (λ (e : l ≡ p). n (by-inj o (ap O (sym e) ∙ f .own-l (omega arith))))
+        (λ x. ⊎-elim (λ (e : r ≡ p). n (by-inj o (ap O (sym e) ∙ f .own-r (omega arith))))
+          (λ y. both-ways (M p) (f .region .solid p (omega arith) (omega arith) .0) (marked-by κ c s p s o))
+          (cases-eq r p))
+        (cases-eq l p)
+
+  -- nor is an empty cell without a mark
+  pub clear : (t l r p : ℕ) → Fence t l r → T p ≡ empty → M p ≡ false → 0 < p → p ≤ N → l ≤ p → p ≤ r → ⊥
+  clear t l r p f em um a b lp pr =
+      ⊎-elim (λ (e : l ≡ p). both-ways (M p) um (marked-by κ c t p t (ap O (sym e) ∙ f .own-l (omega arith))))
+        (λ x. ⊎-elim (λ (e : r ≡ p). both-ways (M p) um (marked-by κ c t p t (ap O (sym e) ∙ f .own-r (omega arith))))
+          (λ y. not-both em (f .region .solid p (omega arith) (omega arith) .1))
+          (cases-eq r p))
+        (cases-eq l p)
+
+  -- a boundary of s is an edge, or off the region of t
+  off-l : (s t l r l′ r′ : ℕ) → s ≢ t → Fence s l r → Fence t l′ r′ → (l ≡ 0) ⊎ ((l < l′) ⊎ (r′ < l))
+  off-l s t l r l′ r′ n f g =
+      let a = f .region .l-h in let b = κ .place-high (ky s) in
+      ⊎-elim (λ (z : 0 < l). ⊎-elim (λ y. inr (inl y)) (λ y. ⊎-elim (λ x. inr (inr x)) (λ x. absurd (outside s t l′ r′ l n g (f .own-l z) z (omega arith) y x)) (cases-lt r′ l)) (cases-lt l l′))
+        (λ z. inl (omega arith)) (cases-lt 0 l)
+
+  off-r : (s t l r l′ r′ : ℕ) → s ≢ t → Fence s l r → Fence t l′ r′ → (N < r) ⊎ ((r < l′) ⊎ (r′ < r))
+  off-r s t l r l′ r′ n f g =
+      let a = f .region .h-r in
+      ⊎-elim inl
+        (λ z. ⊎-elim (λ y. inr (inl y)) (λ y. ⊎-elim (λ x. inr (inr x)) (λ x. absurd (outside s t l′ r′ r n g (f .own-r z) (omega arith) z y x)) (cases-lt r′ r)) (cases-lt r l′))
+        (cases-lt N r)
+
+  pub apart-by : (N p l r l′ r′ : ℕ) → (l ≡ 0) ⊎ ((l < l′) ⊎ (r′ < l)) → (N < r) ⊎ ((r < l′) ⊎ (r′ < r)) → (l′ ≡ 0) ⊎ ((l′ < l) ⊎ (r < l′)) → (N < r′) ⊎ ((r′ < l) ⊎ (r < r′)) → (0 < l′) ⊎ (r′ ≤ N) → r ≤ suc N → r′ ≤ suc N → l ≤ p → p ≤ r → l′ ≤ p → p ≤ r′ → ⊥
+  apart-by N p l r l′ r′ a b a′ b′ d e e′ h1 h2 h3 h4 = omega arith
+
+  pub apart : (s t l r l′ r′ p : ℕ) → s ≢ t → Fence s l r → Fence t l′ r′ → (0 < l′) ⊎ (r′ ≤ N) → l ≤ p → p ≤ r → l′ ≤ p → p ≤ r′ → ⊥
+  apart s t l r l′ r′ p n f g d a b a′ b′ =
+      apart-by N p l r l′ r′ (off-l s t l r l′ r′ n f g) (off-r s t l r l′ r′ n f g) (off-l t s l′ r′ l r (λ e. n (sym e)) g f) (off-r t s l′ r′ l r (λ e. n (sym e)) g f) d (f .region .top) (g .region .top) a b a′ b′
+
+  -- what another relies on is off the region of a station that shifts
+  pub keeps-off : (s t l r p : ℕ) → s ≢ t → Fence s l r → (0 < l) ⊎ (r ≤ N) → Keeps (st t) p → l ≤ p → p ≤ r → ((0 < p) → p ≤ N → ⊥) ⊎ ⊥
+  keeps-off s t l r p n f d k a b =
+      ⊎-elim (λ o. inl (λ z y. outside t s l r p (λ e. n (sym e)) f (o z y) z y a b))
+        (λ g. inr (apart t s (g .0) (g .1) l r p (λ e. n (sym e)) (g .2) f d (g .3) (g .4) a b))
+        (relied t p k)

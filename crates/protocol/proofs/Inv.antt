@@ -1,0 +1,309 @@
+-- What holds of cells, stations and the table of the effects, and what keeps it.
+use mathlib.Core.Path.{_≡_, refl, sym, ap, _∙_, subst}
+use mathlib.Core.Logic.{_⊎_, inl, inr, ⊎-elim, _≢_}
+use mathlib.Core.Bool.{Bool, true, false, cond, _&&_, _||_}
+use Prim.Native.Nat.{ℕ, zero, suc, _+_, _≤_, _<_, pred}
+use native.Mathlib.Omega.{arith}
+use lib.Dec.{eqb, ltb, leb}
+use Rattle.std.proofs.shelf.Tests.{cases-lt, cases-eq, eqb-true, eq-eqb, ne-eqb, and-parts, and-from, or-left, or-right, both-ways, lt-ltb, le-leb, ltb-true, leb-true}
+use Rattle.protocol.specs.Machine.{Kind, Rank, before, same, after, Content, empty, holds, occ, upd, Versus, none, is, versus, Answer, found, inserted, full, from-right, Stage, idle, home, look, left, right, first, second, back, check, shift, unleft, unright, answered, Side, leftward, rightward, Act, rest, mark, unmark, put, Effect, nothing, took, Move, move, moved, goes, slots-after, marks-after, cell}
+use Rattle.protocol.specs.OneWorker.{one-worker}
+use Rattle.protocol.proofs.Flow.{holder}
+use Rattle.protocol.proofs.Basics.{upd-same, upd-at, upd-other, not-both, holds-occ, cmp-refl, cmp-turn, cmp-back, by-place, cases-content}
+use Rattle.protocol.proofs.Sorted.{Sorted}
+
+pub data Owner : Type 0 where
+  free : Owner
+  by : ℕ → Owner
+
+abbrev pub taken : Owner → Bool
+taken free = false
+taken (by s) = true
+
+abbrev pub is-by : ℕ → Owner → Bool
+is-by s free = false
+is-by s (by t) = eqb s t
+
+abbrev pub owners-after : {K : Type 0} → ℕ → Act K → (ℕ → Owner) → ℕ → Owner
+owners-after s rest O = O
+owners-after s (mark p) O = upd O p (by s)
+owners-after s (unmark p) O = upd O p free
+owners-after s (put p c) O = O
+
+-- the positions at which a stage relies on cells and table to stay
+abbrev pub Keeps : Stage → ℕ → Type 0
+Keeps idle q = ⊥
+Keeps home q = ⊥
+Keeps (look p) q = ⊥
+Keeps (left p) q = ⊥
+Keeps (right l p) q = ⊥
+Keeps (first l r) q = ⊥
+Keeps (second l r) q = q ≡ l
+Keeps (back l) q = ⊥
+Keeps (check l r p) q = (l ≤ q) × (q ≤ r)
+Keeps (shift d l r g) q = (l ≤ q) × (q ≤ r)
+Keeps (unleft l r a) q = ⊥
+Keeps (unright r a) q = ⊥
+Keeps (answered a) q = ⊥
+
+abbrev pub In-shift : Stage → ℕ → Type 0
+In-shift idle q = ⊥
+In-shift home q = ⊥
+In-shift (look p) q = ⊥
+In-shift (left p) q = ⊥
+In-shift (right l p) q = ⊥
+In-shift (first l r) q = ⊥
+In-shift (second l r) q = ⊥
+In-shift (back l) q = ⊥
+In-shift (check l r p) q = ⊥
+In-shift (shift d l r g) q = (l ≤ q) × (q ≤ r)
+In-shift (unleft l r a) q = ⊥
+In-shift (unright r a) q = ⊥
+In-shift (answered a) q = ⊥
+
+pub is-by-self : (s : ℕ) → is-by s (by s) ≡ true
+is-by-self s = eq-eqb s s refl
+
+pub is-by-true : (s : ℕ) (o : Owner) → is-by s o ≡ true → o ≡ by s
+is-by-true s free e = let z : _≡_ {A = ℕ} 0 1 = cc in absurd (omega arith)
+is-by-true s (by t) e = ap by (sym (eqb-true s t e))
+
+pub by-inj : {o : Owner} {s t : ℕ} → o ≡ by s → o ≡ by t → s ≡ t
+by-inj a b = cc
+
+module _ {K : Type 0} {N : ℕ} (κ : Kind K N) where
+  abbrev pub table-after : K → Effect → (ℕ → Content K) → ℕ → Content K
+  table-after k nothing S = S
+  table-after k (took a) S = one-worker (κ .ops) S k .0
+
+  -- the answer is that of one worker, no key is lost, and a new one is there
+  abbrev pub Right-answer : K → Effect → (ℕ → Content K) → Type 0
+  Right-answer k nothing S = Unit {0}
+  Right-answer k (took a) S =
+      (one-worker (κ .ops) S k .1 ≡ a) × ((x : K) (p : ℕ) → S p ≡ holds x → (q : ℕ) × (one-worker (κ .ops) S k .0 q ≡ holds x)) × (a ≡ inserted → (q : ℕ) × (one-worker (κ .ops) S k .0 q ≡ holds k))
+
+  pub answer-told : (k : K) (S : ℕ → Content K) (a : Answer) → one-worker (κ .ops) S k ≡ (S, a) → (a ≡ inserted → ⊥) → Right-answer k (took a) S
+  answer-told k S a w n = (ap (λ z. z .1) w, λ x p h. (p, ap (λ z. z .0 p) w ∙ h), λ e. absurd (n e))
+
+  pub answer-new : (k : K) (S S′ : ℕ → Content K) → one-worker (κ .ops) S k ≡ (S′, inserted) → ((x : K) (p : ℕ) → S p ≡ holds x → (q : ℕ) × (S′ q ≡ holds x)) → (q : ℕ) → S′ q ≡ holds k → Right-answer k (took inserted) S
+  answer-new k S S′ w keep q new = (ap (λ z. z .1) w, λ x p h. let y = keep x p h in (y .0, ap (λ z. z .0 (y .0)) w ∙ y .1), λ e. (q, ap (λ z. z .0 q) w ∙ new))
+
+  abbrev pub Solid : (ℕ → Content K) → (ℕ → Bool) → ℕ → Type 0
+  Solid T M p = (M p ≡ false) × (occ (T p) ≡ true)
+
+  pub record Region (T : ℕ → Content K) (M : ℕ → Bool) (k : K) (l r : ℕ) : Type 0 where
+    pub l-h : l < κ .ops .place k
+    pub h-r : κ .ops .place k < r
+    pub top : r ≤ suc N
+    pub solid : (p : ℕ) → l < p → p < r → Solid T M p
+
+  pub record Checking (T : ℕ → Content K) (M : ℕ → Bool) (S : ℕ → Content K) (k : K) (l r p : ℕ) : Type 0 where
+    pub region : Region T M k l r
+    pub el : T l ≡ empty
+    pub er : T r ≡ empty
+    pub agree : (q : ℕ) → l ≤ q → q ≤ r → S q ≡ T q
+    pub l-p : l ≤ p
+    pub p-r : p ≤ r
+    pub afters : (q : ℕ) → p < q → q ≤ κ .ops .place k → versus (κ .ops) k (S q) ≡ is after
+    pub befores : (q : ℕ) → κ .ops .place k ≤ q → q < p → versus (κ .ops) k (S q) ≡ is before
+
+  -- the gap g came from r
+  pub record Shifting-left (T : ℕ → Content K) (M : ℕ → Bool) (S : ℕ → Content K) (k : K) (l r g : ℕ) : Type 0 where
+    pub region : Region T M k l r
+    pub cell-r : r ≤ N
+    pub l-g : l < g
+    pub g-r : g ≤ r
+    pub el : S l ≡ empty
+    pub er : S r ≡ empty
+    pub absent : (q : ℕ) → l ≤ q → q ≤ r → S q ≡ holds k → ⊥
+    pub kept : (q : ℕ) → l ≤ q → q ≤ g → S q ≡ T q
+    pub moved : (q : ℕ) → g ≤ q → q < r → S q ≡ T (suc q)
+    pub afters : (q : ℕ) → g ≤ q → q < r → versus (κ .ops) k (S q) ≡ is after
+    pub chosen : from-right (κ .ops) l r (versus (κ .ops) k (S (κ .ops .place k))) ≡ true
+
+  -- the gap g came from l
+  pub record Shifting-right (T : ℕ → Content K) (M : ℕ → Bool) (S : ℕ → Content K) (k : K) (l r g : ℕ) : Type 0 where
+    pub region : Region T M k l r
+    pub cell-l : 0 < l
+    pub l-g : l ≤ g
+    pub g-r : g < r
+    pub el : S l ≡ empty
+    pub er : S r ≡ empty
+    pub absent : (q : ℕ) → l ≤ q → q ≤ r → S q ≡ holds k → ⊥
+    pub kept : (q : ℕ) → g ≤ q → q ≤ r → S q ≡ T q
+    pub moved : (q : ℕ) → l ≤ q → q < g → S (suc q) ≡ T q
+    pub befores : (q : ℕ) → l < q → q ≤ g → versus (κ .ops) k (S q) ≡ is before
+    pub chosen : from-right (κ .ops) l r (versus (κ .ops) k (S (κ .ops .place k))) ≡ false
+
+  -- what a station of that stage knows
+  abbrev pub Good : (T : ℕ → Content K) (M : ℕ → Bool) (S : ℕ → Content K) → K → Stage → Type 0
+  Good T M S k idle = Unit {0}
+  Good T M S k home = Unit {0}
+  Good T M S k (look p) = Solid T M (κ .ops .place k)
+  Good T M S k (left p) = (p < κ .ops .place k) × ((q : ℕ) → p < q → q ≤ κ .ops .place k → Solid T M q)
+  Good T M S k (right l p) = (l < κ .ops .place k) × (κ .ops .place k < p) × ((q : ℕ) → l < q → q < p → Solid T M q)
+  Good T M S k (first l r) = Region T M k l r
+  Good T M S k (second l r) = Region T M k l r × (T l ≡ empty)
+  Good T M S k (back l) = cell N l ≡ true
+  Good T M S k (check l r p) = Checking T M S k l r p
+  Good T M S k (shift leftward l r g) = Shifting-left T M S k l r g
+  Good T M S k (shift rightward l r g) = Shifting-right T M S k l r g
+  Good T M S k (unleft l r a) = l < r
+  Good T M S k (unright r a) = Unit {0}
+  Good T M S k (answered a) = Unit {0}
+
+  pub record Core (T : ℕ → Content K) (M : ℕ → Bool) (O : ℕ → Owner) (ky : ℕ → K) (st : ℕ → Stage) (S : ℕ → Content K) : Type 0 where
+    pub edge-low : T 0 ≡ empty
+    pub edge-high : (p : ℕ) → N < p → T p ≡ empty
+    pub owned : (s p : ℕ) → holder N (st s) p ≡ is-by s (O p)
+    pub marks : (p : ℕ) → M p ≡ taken (O p)
+    pub good : (s : ℕ) → Good T M S (ky s) (st s)
+    pub agree : (p : ℕ) → (S p ≡ T p) ⊎ ((s : ℕ) × In-shift (st s) p)
+    pub sorted : Sorted κ S
+
+  -- what others' turns do to a station's knowledge
+  module _ (T T′ : ℕ → Content K) (M M′ : ℕ → Bool) (S S′ : ℕ → Content K) (solid : (p : ℕ) → Solid T M p → Solid T′ M′ p) where
+    pub region-stable : {k : K} {l r : ℕ} → Region T M k l r → Region T′ M′ k l r
+    region-stable g = record { l-h = g .l-h; h-r = g .h-r; top = g .top; solid = λ p a b. solid p (g .solid p a b) }
+
+    pub good-stable : (k : K) (x : Stage) → ((p : ℕ) → Keeps x p → (T′ p ≡ T p) × (S′ p ≡ S p)) → Good T M S k x → Good T′ M′ S′ k x
+    good-stable k idle keep g = tt
+    good-stable k home keep g = tt
+    good-stable k (look p) keep g = solid (κ .ops .place k) g
+    good-stable k (left p) keep g = (g .0, λ q a b. solid q (g .1 q a b))
+    good-stable k (right l p) keep g = (g .0, g .1, λ q a b. solid q (g .2 q a b))
+    good-stable k (first l r) keep g = region-stable g
+    good-stable k (second l r) keep g = (region-stable (g .0), keep l refl .0 ∙ g .1)
+    good-stable k (back l) keep g = g
+    good-stable k (check l r p) keep g =
+        let b = g .region .l-h in let c = g .region .h-r in
+        record {
+          region = region-stable (g .region);
+          el = keep l (omega arith) .0 ∙ g .el;
+          er = keep r (omega arith) .0 ∙ g .er;
+          agree = λ q a b. keep q (a, b) .1 ∙ g .agree q a b ∙ sym (keep q (a, b) .0);
+          l-p = g .l-p;
+          p-r = g .p-r;
+          afters = λ q a b. let d = g .l-p in rw (keep q (omega arith) .1) (g .afters q a b);
+          befores = λ q a b. let d = g .p-r in rw (keep q (omega arith) .1) (g .befores q a b);
+        }
+    good-stable k (shift leftward l r p) keep g =
+        let b = g .region .l-h in let c = g .region .h-r in let d = g .l-g in let e = g .g-r in
+        record {
+          region = region-stable (g .region);
+          cell-r = g .cell-r;
+          l-g = g .l-g;
+          g-r = g .g-r;
+          el = keep l (omega arith) .1 ∙ g .el;
+          er = keep r (omega arith) .1 ∙ g .er;
+          absent = λ q a b h. g .absent q a b (sym (keep q (a, b) .1) ∙ h);
+          kept = λ q a b. keep q (omega arith) .1 ∙ g .kept q a b ∙ sym (keep q (omega arith) .0);
+          moved = λ q a b. keep q (omega arith) .1 ∙ g .moved q a b ∙ sym (keep (suc q) (omega arith) .0);
+          afters = λ q a b. rw (keep q (omega arith) .1) (g .afters q a b);
+          chosen = rw (keep (κ .ops .place k) (omega arith) .1) (g .chosen);
+        }
+    good-stable k (shift rightward l r p) keep g =
+        let b = g .region .l-h in let c = g .region .h-r in let d = g .l-g in let e = g .g-r in
+        record {
+          region = region-stable (g .region);
+          cell-l = g .cell-l;
+          l-g = g .l-g;
+          g-r = g .g-r;
+          el = keep l (omega arith) .1 ∙ g .el;
+          er = keep r (omega arith) .1 ∙ g .er;
+          absent = λ q a b h. g .absent q a b (sym (keep q (a, b) .1) ∙ h);
+          kept = λ q a b. keep q (omega arith) .1 ∙ g .kept q a b ∙ sym (keep q (omega arith) .0);
+          moved = λ q a b. keep (suc q) (omega arith) .1 ∙ g .moved q a b ∙ sym (keep q (omega arith) .0);
+          befores = λ q a b. rw (keep q (omega arith) .1) (g .befores q a b);
+          chosen = rw (keep (κ .ops .place k) (omega arith) .1) (g .chosen);
+        }
+    good-stable k (unleft l r a) keep g = g
+    good-stable k (unright r a) keep g = tt
+    good-stable k (answered a) keep g = tt
+
+  module _ {T : ℕ → Content K} {M : ℕ → Bool} {O : ℕ → Owner} {ky : ℕ → K} {st : ℕ → Stage} {S : ℕ → Content K} (c : Core T M O ky st S) (s : ℕ) where
+    -- after one step of s, which leaves its stage at next
+    pub make : (T′ : ℕ → Content K) (M′ : ℕ → Bool) (O′ : ℕ → Owner) (S′ : ℕ → Content K) (next : Stage)
+        → T′ 0 ≡ empty → ((p : ℕ) → N < p → T′ p ≡ empty)
+        → ((p : ℕ) → holder N next p ≡ is-by s (O′ p))
+        → ((t p : ℕ) → s ≢ t → is-by t (O p) ≡ is-by t (O′ p))
+        → ((p : ℕ) → M′ p ≡ taken (O′ p))
+        → ((p : ℕ) → Solid T M p → Solid T′ M′ p)
+        → ((t p : ℕ) → s ≢ t → Keeps (st t) p → (T′ p ≡ T p) × (S′ p ≡ S p))
+        → Good T′ M′ S′ (ky s) next
+        → ((p : ℕ) → (S′ p ≡ T′ p) ⊎ (((t : ℕ) × (s ≢ t) × In-shift (st t) p) ⊎ In-shift next p))
+        → Sorted κ S′
+        → Core T′ M′ O′ ky (upd st s next) S′
+    make T′ M′ O′ S′ next e0 eN own-s own-t mk so keep gd ag sd =
+        record {
+          edge-low = e0;
+          edge-high = eN;
+          owned = λ t p. ⊎-elim
+            (λ (e : s ≡ t). ap (λ x. holder N x p) (upd-at st s t next e) ∙ own-s p ∙ ap (λ i. is-by i (O′ p)) e)
+            (λ n. ap (λ x. holder N x p) (upd-other st s t next n) ∙ c .owned t p ∙ own-t t p n)
+            (cases-eq s t);
+          marks = mk;
+          good = λ t. ⊎-elim
+            (λ (e : s ≡ t). subst (λ x. Good T′ M′ S′ (ky t) x) (sym (upd-at st s t next e)) (subst (λ i. Good T′ M′ S′ (ky i) next) e gd))
+            (λ n. subst (λ x. Good T′ M′ S′ (ky t) x) (sym (upd-other st s t next n)) (good-stable T T′ M M′ S S′ so (ky t) (st t) (λ p h. keep t p n h) (c .good t)))
+            (cases-eq s t);
+          agree = λ p. ⊎-elim inl (⊎-elim
+            (λ h. inr (h .0, subst (λ x. In-shift x p) (sym (upd-other st s (h .0) next (h .1))) (h .2)))
+            (λ h. inr (s, subst (λ x. In-shift x p) (sym (upd-same st s next)) h))) (ag p);
+          sorted = sd;
+        }
+
+    -- where the cells and the table stay
+    pub agree-still : (x next : Stage) → st s ≡ x → ((p : ℕ) → In-shift x p → In-shift next p) → (p : ℕ) → (S p ≡ T p) ⊎ (((t : ℕ) × (s ≢ t) × In-shift (st t) p) ⊎ In-shift next p)
+    agree-still x next e sh p = ⊎-elim inl
+        (λ h. ⊎-elim (λ (q : s ≡ h .0). inr (inr (sh p (subst (λ y. In-shift y p) (ap st (sym q) ∙ e) (h .1))))) (λ n. inr (inl (h .0, n, h .1))) (cases-eq s (h .0)))
+        (c .agree p)
+
+    pub still : (x next : Stage) → st s ≡ x → ((p : ℕ) → holder N next p ≡ holder N x p) → ((p : ℕ) → In-shift x p → In-shift next p) → Good T M S (ky s) next → Core T M O ky (upd st s next) S
+    still x next e ho sh gd =
+        make T M O S next (c .edge-low) (c .edge-high)
+          (λ p. ho p ∙ ap (λ y. holder N y p) (sym e) ∙ c .owned s p) (λ t p n. refl) (c .marks) (λ p a. a) (λ t p n h. (refl, refl)) gd
+          (agree-still x next e sh) (c .sorted)
+
+    pub own : (x : Stage) → st s ≡ x → (p : ℕ) → holder N x p ≡ true → O p ≡ by s
+    own x e p h = is-by-true s (O p) (sym (c .owned s p) ∙ ap (λ y. holder N y p) e ∙ h)
+
+    pub marked-by : (p t : ℕ) → O p ≡ by t → M p ≡ true
+    marked-by p t e = c .marks p ∙ ap taken e
+
+    pub marking : (x next : Stage) (p : ℕ) → st s ≡ x → M p ≡ false → T p ≡ empty
+        → ((q : ℕ) → p ≢ q → holder N next q ≡ holder N x q) → holder N next p ≡ true
+        → ((q : ℕ) → In-shift x q → In-shift next q) → Good T (upd M p true) S (ky s) next
+        → Core T (upd M p true) (upd O p (by s)) ky (upd st s next) S
+    marking x next p e um em ho hp sh gd =
+        make T (upd M p true) (upd O p (by s)) S next (c .edge-low) (c .edge-high)
+          (λ q. ⊎-elim (λ (z : p ≡ q). ap (holder N next) (sym z) ∙ hp ∙ sym (ap (is-by s) (upd-at O p q (by s) z) ∙ is-by-self s))
+                  (λ n. ho q n ∙ ap (λ y. holder N y q) (sym e) ∙ c .owned s q ∙ ap (is-by s) (sym (upd-other O p q (by s) n))) (cases-eq p q))
+          (λ t q n. ⊎-elim (λ (z : p ≡ q). not-by t q (sym (ap M z) ∙ um) ∙ sym (ap (is-by t) (upd-at O p q (by s) z) ∙ ne-eqb t s (λ w. n (sym w))))
+                      (λ n′. ap (is-by t) (sym (upd-other O p q (by s) n′))) (cases-eq p q))
+          (λ q. ⊎-elim (λ (z : p ≡ q). upd-at M p q true z ∙ ap taken (sym (upd-at O p q (by s) z)))
+                  (λ n. upd-other M p q true n ∙ c .marks q ∙ ap taken (sym (upd-other O p q (by s) n))) (cases-eq p q))
+          (λ q h. (upd-other M p q true (λ z. not-both (sym (ap T z) ∙ em) (h .1)) ∙ h .0, h .1))
+          (λ t q n h. (refl, refl)) gd (agree-still x next e sh) (c .sorted)
+      where
+        not-by : (t q : ℕ) → M q ≡ false → is-by t (O q) ≡ false
+        not-by t q m = go (O q) (sym (c .marks q) ∙ m)
+          where
+            go : (o : Owner) → taken o ≡ false → is-by t o ≡ false
+            go free h = refl
+            go (by u) h = absurd (both-ways true h refl)
+
+    pub unmarking : (x next : Stage) (p : ℕ) → st s ≡ x → O p ≡ by s
+        → ((q : ℕ) → p ≢ q → holder N next q ≡ holder N x q) → holder N next p ≡ false
+        → ((q : ℕ) → In-shift x q → In-shift next q) → Good T (upd M p false) S (ky s) next
+        → Core T (upd M p false) (upd O p free) ky (upd st s next) S
+    unmarking x next p e ow ho hp sh gd =
+        make T (upd M p false) (upd O p free) S next (c .edge-low) (c .edge-high)
+          (λ q. ⊎-elim (λ (z : p ≡ q). ap (holder N next) (sym z) ∙ hp ∙ sym (ap (is-by s) (upd-at O p q free z)))
+                  (λ n. ho q n ∙ ap (λ y. holder N y q) (sym e) ∙ c .owned s q ∙ ap (is-by s) (sym (upd-other O p q free n))) (cases-eq p q))
+          (λ t q n. ⊎-elim (λ (z : p ≡ q). ap (is-by t) (sym (ap O z) ∙ ow) ∙ ne-eqb t s (λ w. n (sym w)) ∙ sym (ap (is-by t) (upd-at O p q free z)))
+                      (λ n′. ap (is-by t) (sym (upd-other O p q free n′))) (cases-eq p q))
+          (λ q. ⊎-elim (λ (z : p ≡ q). upd-at M p q false z ∙ ap taken (sym (upd-at O p q free z)))
+                  (λ n. upd-other M p q false n ∙ c .marks q ∙ ap taken (sym (upd-other O p q free n))) (cases-eq p q))
+          (λ q h. (⊎-elim (λ (z : p ≡ q). upd-at M p q false z) (λ n. upd-other M p q false n ∙ h .0) (cases-eq p q), h .1))
+          (λ t q n h. (refl, refl)) gd (agree-still x next e sh) (c .sorted)

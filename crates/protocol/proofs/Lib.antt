@@ -1,0 +1,15 @@
+pub mod Flow
+pub mod Basics
+pub mod Sorted
+pub mod Worker
+pub mod Inv
+pub mod Fence
+pub mod Easy
+pub mod Checks
+pub mod Shifts
+pub mod States
+pub mod Lists
+pub mod Phases
+pub mod Holds
+pub mod Ends
+pub mod Named

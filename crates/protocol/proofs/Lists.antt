@@ -1,0 +1,188 @@
+-- Reads and writes of the lists, by place.
+use mathlib.Core.Path.{_≡_, refl, sym, ap, _∙_, subst}
+use mathlib.Core.Logic.{_⊎_, inl, inr, ⊎-elim, _≢_}
+use mathlib.Core.Bool.{Bool, true, false, cond}
+use mathlib.Core.List.{List, [], _∷_, map}
+use Prim.Native.Nat.{ℕ, zero, suc, _≤_, _<_}
+use native.Mathlib.Nat.{le-of-suc-le-suc, not-suc-le-zero}
+use native.Mathlib.Omega.{arith}
+use lib.ListN.{length, set, length-set}
+use Rattle.std.proofs.shelf.Tests.{cases-lt, cases-eq}
+use Rattle.protocol.specs.declared.Cell.{Cell}
+use Rattle.protocol.specs.Machine.{Content, empty, holds, upd, Act, rest, mark, unmark, put, slots-after, marks-after}
+use Rattle.protocol.specs.Register.{content, content-at, marked-at, slots, marks, alter, alter-place, with-mark, with-content, cells-after, nth, blank}
+use Rattle.protocol.proofs.Basics.{upd-at, upd-other}
+
+module _ {K : Type 0} where
+  pub length-alter : (f : Cell K → Cell K) (i : ℕ) (cs : List (Cell K)) → length (alter f i cs) ≡ length cs
+  length-alter f i [] = refl
+  length-alter f zero (c ∷ cs) = refl
+  length-alter f (suc i) (c ∷ cs) = ap suc (length-alter f i cs)
+
+  pub length-after : (a : Act K) (cs : List (Cell K)) → length (cells-after a cs) ≡ length cs
+  length-after rest cs = refl
+  length-after (mark zero) cs = refl
+  length-after (mark (suc i)) cs = length-alter (with-mark true) i cs
+  length-after (unmark zero) cs = refl
+  length-after (unmark (suc i)) cs = length-alter (with-mark false) i cs
+  length-after (put zero c) cs = refl
+  length-after (put (suc i) c) cs = length-alter (with-content c) i cs
+
+  pub alter-past : (f : Cell K → Cell K) (i : ℕ) (cs : List (Cell K)) → length cs ≤ i → alter f i cs ≡ cs
+  alter-past f i [] h = refl
+  alter-past f zero (c ∷ cs) h = absurd (not-suc-le-zero h)
+  alter-past f (suc i) (c ∷ cs) h = ap (λ x. c ∷ x) (alter-past f i cs (le-of-suc-le-suc h))
+
+  content-past : (cs : List (Cell K)) (i : ℕ) → length cs ≤ i → content-at cs i ≡ empty
+  content-past [] i h = refl
+  content-past (c ∷ cs) zero h = absurd (not-suc-le-zero h)
+  content-past (c ∷ cs) (suc i) h = content-past cs i (le-of-suc-le-suc h)
+
+  marked-past : (cs : List (Cell K)) (i : ℕ) → length cs ≤ i → marked-at cs i ≡ false
+  marked-past [] i h = refl
+  marked-past (c ∷ cs) zero h = absurd (not-suc-le-zero h)
+  marked-past (c ∷ cs) (suc i) h = marked-past cs i (le-of-suc-le-suc h)
+
+  content-other : (f : Cell K → Cell K) (i : ℕ) (cs : List (Cell K)) (j : ℕ) → i ≢ j → content-at (alter f i cs) j ≡ content-at cs j
+  content-other f i [] j n = refl
+  content-other f zero (c ∷ cs) zero n = absurd (n refl)
+  content-other f zero (c ∷ cs) (suc j) n = refl
+  content-other f (suc i) (c ∷ cs) zero n = refl
+  content-other f (suc i) (c ∷ cs) (suc j) n = content-other f i cs j (λ e. n (ap suc e))
+
+  marked-other : (f : Cell K → Cell K) (i : ℕ) (cs : List (Cell K)) (j : ℕ) → i ≢ j → marked-at (alter f i cs) j ≡ marked-at cs j
+  marked-other f i [] j n = refl
+  marked-other f zero (c ∷ cs) zero n = absurd (n refl)
+  marked-other f zero (c ∷ cs) (suc j) n = refl
+  marked-other f (suc i) (c ∷ cs) zero n = refl
+  marked-other f (suc i) (c ∷ cs) (suc j) n = marked-other f i cs j (λ e. n (ap suc e))
+
+  content-with : (x : Content K) (c : Cell K) → content (with-content x c) ≡ x
+  content-with empty c = refl
+  content-with (holds k) c = refl
+
+  marked-with : (x : Content K) (c : Cell K) → with-content x c .marked ≡ c .marked
+  marked-with empty c = refl
+  marked-with (holds k) c = refl
+
+  content-put : (x : Content K) (i : ℕ) (cs : List (Cell K)) → i < length cs → content-at (alter (with-content x) i cs) i ≡ x
+  content-put x i [] h = absurd (not-suc-le-zero h)
+  content-put x zero (c ∷ cs) h = content-with x c
+  content-put x (suc i) (c ∷ cs) h = content-put x i cs (le-of-suc-le-suc h)
+
+  marked-put : (x : Content K) (i : ℕ) (cs : List (Cell K)) (j : ℕ) → marked-at (alter (with-content x) i cs) j ≡ marked-at cs j
+  marked-put x i [] j = refl
+  marked-put x zero (c ∷ cs) zero = marked-with x c
+  marked-put x zero (c ∷ cs) (suc j) = refl
+  marked-put x (suc i) (c ∷ cs) zero = refl
+  marked-put x (suc i) (c ∷ cs) (suc j) = marked-put x i cs j
+
+  content-mark : (b : Bool) (i : ℕ) (cs : List (Cell K)) (j : ℕ) → content-at (alter (with-mark b) i cs) j ≡ content-at cs j
+  content-mark b i [] j = refl
+  content-mark b zero (c ∷ cs) zero = refl
+  content-mark b zero (c ∷ cs) (suc j) = refl
+  content-mark b (suc i) (c ∷ cs) zero = refl
+  content-mark b (suc i) (c ∷ cs) (suc j) = content-mark b i cs j
+
+  marked-mark : (b : Bool) (i : ℕ) (cs : List (Cell K)) → i < length cs → marked-at (alter (with-mark b) i cs) i ≡ b
+  marked-mark b i [] h = absurd (not-suc-le-zero h)
+  marked-mark b zero (c ∷ cs) h = refl
+  marked-mark b (suc i) (c ∷ cs) h = marked-mark b i cs (le-of-suc-le-suc h)
+
+  pub slots-past : (cs : List (Cell K)) (p : ℕ) → length cs < p → slots cs p ≡ empty
+  slots-past cs zero h = refl
+  slots-past cs (suc i) h = content-past cs i (le-of-suc-le-suc h)
+
+  pub marks-past : (cs : List (Cell K)) (p : ℕ) → length cs < p → marks cs p ≡ false
+  marks-past cs zero h = refl
+  marks-past cs (suc i) h = marked-past cs i (le-of-suc-le-suc h)
+
+  slots-mark : (b : Bool) (p : ℕ) (cs : List (Cell K)) (q : ℕ) → slots (alter-place (with-mark b) p cs) q ≡ slots cs q
+  slots-mark b zero cs q = refl
+  slots-mark b (suc i) cs zero = refl
+  slots-mark b (suc i) cs (suc j) = content-mark b i cs j
+
+  marks-put : (x : Content K) (p : ℕ) (cs : List (Cell K)) (q : ℕ) → marks (alter-place (with-content x) p cs) q ≡ marks cs q
+  marks-put x zero cs q = refl
+  marks-put x (suc i) cs zero = refl
+  marks-put x (suc i) cs (suc j) = marked-put x i cs j
+
+  -- a write off the cells does nothing; e says that it would have left an edge as it was
+  slots-put : (x : Content K) (p : ℕ) (cs : List (Cell K)) → ((q : ℕ) → (q ≡ 0) ⊎ (length cs < q) → upd (slots cs) p x q ≡ empty) → (q : ℕ) → slots (alter-place (with-content x) p cs) q ≡ upd (slots cs) p x q
+  slots-put x zero cs e zero = sym (e zero (inl refl))
+  slots-put x zero cs e (suc j) = sym (upd-other (slots cs) zero (suc j) x (omega arith))
+  slots-put x (suc i) cs e zero = sym (upd-other (slots cs) (suc i) zero x (omega arith))
+  slots-put x (suc i) cs e (suc j) =
+      ⊎-elim
+        (λ (z : i ≡ j). ⊎-elim
+          (λ (lt : i < length cs). ap (content-at (alter (with-content x) i cs)) (sym z) ∙ content-put x i cs lt ∙ sym (upd-at (slots cs) (suc i) (suc j) x (ap suc z)))
+          (λ le. ap (λ y. content-at y j) (alter-past (with-content x) i cs le) ∙ content-past cs j (omega arith) ∙ sym (e (suc j) (inr (omega arith))))
+          (cases-lt i (length cs)))
+        (λ n. content-other (with-content x) i cs j n ∙ sym (upd-other (slots cs) (suc i) (suc j) x (omega arith)))
+        (cases-eq i j)
+
+  marks-mark : (b : Bool) (p : ℕ) (cs : List (Cell K)) → ((q : ℕ) → (q ≡ 0) ⊎ (length cs < q) → upd (marks cs) p b q ≡ false) → (q : ℕ) → marks (alter-place (with-mark b) p cs) q ≡ upd (marks cs) p b q
+  marks-mark b zero cs e zero = sym (e zero (inl refl))
+  marks-mark b zero cs e (suc j) = sym (upd-other (marks cs) zero (suc j) b (omega arith))
+  marks-mark b (suc i) cs e zero = sym (upd-other (marks cs) (suc i) zero b (omega arith))
+  marks-mark b (suc i) cs e (suc j) =
+      ⊎-elim
+        (λ (z : i ≡ j). ⊎-elim
+          (λ (lt : i < length cs). ap (marked-at (alter (with-mark b) i cs)) (sym z) ∙ marked-mark b i cs lt ∙ sym (upd-at (marks cs) (suc i) (suc j) b (ap suc z)))
+          (λ le. ap (λ y. marked-at y j) (alter-past (with-mark b) i cs le) ∙ marked-past cs j (omega arith) ∙ sym (e (suc j) (inr (omega arith))))
+          (cases-lt i (length cs)))
+        (λ n. marked-other (with-mark b) i cs j n ∙ sym (upd-other (marks cs) (suc i) (suc j) b (omega arith)))
+        (cases-eq i j)
+
+  pub slots-act : (a : Act K) (cs : List (Cell K)) → ((q : ℕ) → (q ≡ 0) ⊎ (length cs < q) → slots-after a (slots cs) q ≡ empty) → (q : ℕ) → slots (cells-after a cs) q ≡ slots-after a (slots cs) q
+  slots-act rest cs e q = refl
+  slots-act (mark p) cs e q = slots-mark true p cs q
+  slots-act (unmark p) cs e q = slots-mark false p cs q
+  slots-act (put p x) cs e q = slots-put x p cs e q
+
+  pub marks-act : (a : Act K) (cs : List (Cell K)) → ((q : ℕ) → (q ≡ 0) ⊎ (length cs < q) → marks-after a (marks cs) q ≡ false) → (q : ℕ) → marks (cells-after a cs) q ≡ marks-after a (marks cs) q
+  marks-act rest cs e q = refl
+  marks-act (mark p) cs e q = marks-mark true p cs e q
+  marks-act (unmark p) cs e q = marks-mark false p cs e q
+  marks-act (put p x) cs e q = marks-put x p cs q
+
+  content-blank : (k : K) (cs : List (Cell K)) (i : ℕ) → content-at (map (blank k) cs) i ≡ empty
+  content-blank k [] i = refl
+  content-blank k (c ∷ cs) zero = refl
+  content-blank k (c ∷ cs) (suc i) = content-blank k cs i
+
+  marked-blank : (k : K) (cs : List (Cell K)) (i : ℕ) → marked-at (map (blank k) cs) i ≡ false
+  marked-blank k [] i = refl
+  marked-blank k (c ∷ cs) zero = refl
+  marked-blank k (c ∷ cs) (suc i) = marked-blank k cs i
+
+  pub slots-blank : (k : K) (cs : List (Cell K)) (p : ℕ) → slots (map (blank k) cs) p ≡ empty
+  slots-blank k cs zero = refl
+  slots-blank k cs (suc i) = content-blank k cs i
+
+  pub marks-blank : (k : K) (cs : List (Cell K)) (p : ℕ) → marks (map (blank k) cs) p ≡ false
+  marks-blank k cs zero = refl
+  marks-blank k cs (suc i) = marked-blank k cs i
+
+module _ {A : Type 0} where
+  pub nth-same : (xs : List A) (i : ℕ) (a b : A) → nth xs i ≡ holds b → nth (set xs i a) i ≡ holds a
+  nth-same [] i a b h = let z : _≡_ {A = ℕ} 0 1 = cc in absurd (omega arith)
+  nth-same (x ∷ xs) zero a b h = refl
+  nth-same (x ∷ xs) (suc i) a b h = nth-same xs i a b h
+
+  pub nth-other : (xs : List A) (i : ℕ) (a : A) (j : ℕ) → i ≢ j → nth (set xs i a) j ≡ nth xs j
+  nth-other [] i a j n = refl
+  nth-other (x ∷ xs) zero a zero n = absurd (n refl)
+  nth-other (x ∷ xs) zero a (suc j) n = refl
+  nth-other (x ∷ xs) (suc i) a zero n = refl
+  nth-other (x ∷ xs) (suc i) a (suc j) n = nth-other xs i a j (λ e. n (ap suc e))
+
+  pub nth-past : (xs : List A) (i : ℕ) → length xs ≤ i → nth xs i ≡ empty
+  nth-past [] i h = refl
+  nth-past (x ∷ xs) zero h = absurd (not-suc-le-zero h)
+  nth-past (x ∷ xs) (suc i) h = nth-past xs i (le-of-suc-le-suc h)
+
+  pub nth-map : (P : A → Type 0) (f : A → A) → ((x : A) → P (f x)) → (xs : List A) (i : ℕ) (y : A) → nth (map f xs) i ≡ holds y → P y
+  nth-map P f h [] i y e = let z : _≡_ {A = ℕ} 0 1 = cc in absurd (omega arith)
+  nth-map P f h (x ∷ xs) zero y e = subst P (let z : f x ≡ y = cc in z) (h x)
+  nth-map P f h (x ∷ xs) (suc i) y e = nth-map P f h xs i y e
