@@ -1,20 +1,25 @@
 -- A station alone ends, or comes home, within 5 N + 20 steps: a whole entry never runs out of them.
-use mathlib.Core.Path.{_≡_, refl, sym, ap, _∙_, subst}
-use mathlib.Core.Logic.{_⊎_, inl, inr, ⊎-elim, _≢_}
-use mathlib.Core.Bool.{Bool, true, false, cond, _&&_, _||_}
-use mathlib.Core.List.{List, [], _∷_}
+use mathlib.Core.Path.{_≡_, refl, ap, _∙_, subst}
+use mathlib.Core.Logic.{_⊎_, inl, inr, ⊎-elim}
+use mathlib.Core.Bool.{Bool, true, false, cond}
+use mathlib.Core.List.{List}
 use Prim.Native.Nat.{ℕ, zero, suc, _+_, _-_, _*_, _≤_, _<_, pred}
 use native.Mathlib.Omega.{arith}
-use lib.Dec.{eqb, ltb, leb}
+use lib.Dec.{ltb, leb}
 use lib.ListN.{length}
-use Rattle.std.proofs.shelf.Tests.{cases-lt, cases-eq, both-ways, cond-true, cond-false, lt-ltb, le-ltb, leb-true, leb-false}
+use Rattle.std.proofs.shelf.Tests.{cases-lt, both-ways, cond-true, cond-false, lt-ltb, le-ltb, leb-true}
 use Rattle.protocol.specs.declared.Cell.{Cell}
-use Rattle.protocol.specs.Machine.{Kind, Content, empty, holds, occ, before, same, after, Versus, none, is, versus, Answer, Stage, idle, home, look, left, right, first, second, back, check, shift, unleft, unright, answered, Side, leftward, rightward, Effect, nothing, took, Move, move, goes, cell, Walk, hit, over, on, walk-at, from-right, both-edges, home-known, at-home, at-look, at-left, at-right, at-first, give-up, at-second, walked, at-check, at-shift-left, at-shift-right, release, shift-from}
-use Rattle.protocol.specs.Stages.{Reply, refused, busy, is-idle}
-use Rattle.protocol.specs.Register.{slots, marks, cells-after, alone-at, alone}
-use Rattle.protocol.proofs.Basics.{not-both}
+use Rattle.protocol.specs.Cells.{Content, empty, holds, cell, is-occupied, contents, marks, cells-after}
+use Rattle.protocol.specs.Stages.{Answer, Inserted, Direction, Leftward, Rightward, Stage, Idle, Home, Look, Left, Right, FirstMark, SecondMark, GiveBack, Check, Shift, ReleaseLeft, ReleaseRight, Answered, Standing, resting, homing, under-way, done, standing, busy-by, busy, idle-by, is-idle}
+use Rattle.protocol.specs.Step.{before, same, after, Walk, Here, Ended, Onward, Versus, none, is, is-after, walk-at, beside, copy-due, at-home, at-look, at-left, at-right, at-first, give-up, at-second, absent, at-check, copied, release, versus, at-shift, decide}
+use Rattle.protocol.specs.Calls.{ends-by, decision, alone}
+use Rattle.protocol.specs.Safety.{Ended-stage}
+use Rattle.protocol.proofs.Lawful.{Lawful}
+use Rattle.protocol.proofs.Basics.{not-both, holds-occ}
+use Rattle.protocol.proofs.Sorted.{inside}
+use Rattle.protocol.proofs.Standings.{Told, stage-is}
+use Rattle.protocol.proofs.Lists.{length-after, contents-past}
 use Rattle.protocol.proofs.Easy.{versus-occ}
-use Rattle.protocol.proofs.Lists.{length-after, slots-past}
 
 -- how far a walk from home has yet to go at p
 unfoldable pub dist : ℕ → ℕ → ℕ → ℕ
@@ -37,225 +42,208 @@ dist-most N h p hN = ⊎-elim (λ (a : p < h). let e = dist-left N h p a in omeg
 
 -- steps left at most
 unfoldable pub left-over : ℕ → ℕ → Stage → ℕ
-left-over N h idle = 0
-left-over N h home = 5 * N + 20
-left-over N h (look p) = 4 * N + 17 + dist N h p
-left-over N h (left p) = 3 * N + 14 + p
-left-over N h (right l p) = 2 * N + 11 + (suc N - p)
-left-over N h (first l r) = 2 * N + 10
-left-over N h (second l r) = 2 * N + 9
-left-over N h (back l) = 1
-left-over N h (check l r p) = N + 6 + dist N h p
-left-over N h (shift leftward l r g) = g + 3
-left-over N h (shift rightward l r g) = (N + 1 - g) + 3
-left-over N h (unleft l r a) = 2
-left-over N h (unright r a) = 1
-left-over N h (answered a) = 0
+left-over N h Idle = 0
+left-over N h Home = 5 * N + 20
+left-over N h (Look p) = 4 * N + 17 + dist N h p
+left-over N h (Left p) = 3 * N + 14 + p
+left-over N h (Right l p) = 2 * N + 11 + (suc N - p)
+left-over N h (FirstMark l r) = 2 * N + 10
+left-over N h (SecondMark l r) = 2 * N + 9
+left-over N h (GiveBack g) = 1
+left-over N h (Check l r p) = N + 6 + dist N h p
+left-over N h (Shift Leftward l r g) = g + 4
+left-over N h (Shift Rightward l r g) = (N - g) + 3
+left-over N h (ReleaseLeft l r a) = 2
+left-over N h (ReleaseRight r a) = 1
+left-over N h (Answered a) = 0
 
 -- places that a station alone comes to
 unfoldable pub Wide : ℕ → Stage → Type 0
-Wide N idle = Unit {0}
-Wide N home = Unit {0}
-Wide N (look p) = Unit {0}
-Wide N (left p) = p ≤ N
-Wide N (right l p) = p ≤ suc N
-Wide N (first l r) = r ≤ suc N
-Wide N (second l r) = r ≤ suc N
-Wide N (back l) = Unit {0}
-Wide N (check l r p) = r ≤ suc N
-Wide N (shift d l r g) = Unit {0}
-Wide N (unleft l r a) = Unit {0}
-Wide N (unright r a) = Unit {0}
-Wide N (answered a) = Unit {0}
+Wide N Idle = Unit {0}
+Wide N Home = Unit {0}
+Wide N (Look p) = Unit {0}
+Wide N (Left p) = p ≤ N
+Wide N (Right l p) = p ≤ suc N
+Wide N (FirstMark l r) = r ≤ suc N
+Wide N (SecondMark l r) = r ≤ suc N
+Wide N (GiveBack g) = Unit {0}
+Wide N (Check l r p) = r ≤ suc N
+Wide N (Shift d l r g) = Unit {0}
+Wide N (ReleaseLeft l r a) = Unit {0}
+Wide N (ReleaseRight r a) = Unit {0}
+Wide N (Answered a) = Unit {0}
 
-module _ {K : Type 0} {N : ℕ} (κ : Kind K N) (k : K) where
+module _ {K : Type 0} {N : ℕ} (κ : Lawful K N) (k : K) where
   -- the step ends at home, or less is left
   unfoldable pub Falls : Stage → Stage → Type 0
-  Falls x y = (y ≡ home) ⊎ (Wide N y × (left-over N (κ .ops .place k) y < left-over N (κ .ops .place k) x) × (is-idle y ≡ false))
+  Falls x y = (y ≡ Home) ⊎ (Wide N y × (left-over N (κ .kind .place k) y < left-over N (κ .kind .place k) x) × (is-idle y ≡ false))
 
-  module _ (T : ℕ → Content K) (M : ℕ → Bool) (inside : (p : ℕ) → occ (T p) ≡ true → (0 < p) × (p ≤ N)) where
+  module _ (T : ℕ → Content K) (M : ℕ → Bool) (inside : (p : ℕ) → is-occupied (T p) ≡ true → (0 < p) × (p ≤ N)) where
 
-    home-f : (b : Bool) (v : Versus) → versus (κ .ops) k (T (κ .ops .place k)) ≡ v → Falls home (at-home (κ .ops) k b v .next)
+    home-f : (b : Bool) (v : Versus) → versus (κ .kind) k (T (κ .kind .place k)) ≡ v → Falls Home (at-home k (κ .kind .place k) b v .next)
     unfolding Falls Wide left-over
     home-f true v e = inl refl
     home-f false none e = inr (tt, omega arith, refl)
     home-f false (is same) e = inr (tt, omega arith, refl)
-    home-f false (is after) e = let a = κ .place-low k in let b = κ .place-high k in let d = dist-left N (κ .ops .place k) (pred (κ .ops .place k)) (omega arith) in inr (tt, omega arith, refl)
-    home-f false (is before) e = let b = κ .place-high k in let d = dist-right N (κ .ops .place k) (suc (κ .ops .place k)) (omega arith) in inr (tt, omega arith, refl)
+    home-f false (is after) e = let a = κ .place-low k in let b = κ .place-high k in let d = dist-left N (κ .kind .place k) (pred (κ .kind .place k)) (omega arith) in inr (tt, omega arith, refl)
+    home-f false (is before) e = let b = κ .place-high k in let d = dist-right N (κ .kind .place k) (suc (κ .kind .place k)) (omega arith) in inr (tt, omega arith, refl)
 
     -- a walk that goes on comes nearer
-    nearer-left : (p : ℕ) → versus (κ .ops) k (T p) ≡ is after → p ≤ κ .ops .place k → dist N (κ .ops .place k) (pred p) < dist N (κ .ops .place k) p
+    nearer-left : (p : ℕ) → versus (κ .kind) k (T p) ≡ is after → p ≤ κ .kind .place k → dist N (κ .kind .place k) (pred p) < dist N (κ .kind .place k) p
     nearer-left p v le =
         let i = inside p (versus-occ κ k (T p) after v) in let b = κ .place-high k in
-        let d = dist-left N (κ .ops .place k) (pred p) (omega arith) in
-        ⊎-elim (λ (a : p < κ .ops .place k). let e = dist-left N (κ .ops .place k) p a in omega arith) (λ a. let e = dist-home N (κ .ops .place k) p (omega arith) in omega arith) (cases-lt p (κ .ops .place k))
+        let d = dist-left N (κ .kind .place k) (pred p) (omega arith) in
+        ⊎-elim (λ (a : p < κ .kind .place k). let e = dist-left N (κ .kind .place k) p a in omega arith) (λ a. let e = dist-home N (κ .kind .place k) p (omega arith) in omega arith) (cases-lt p (κ .kind .place k))
 
-    nearer-right : (p : ℕ) → versus (κ .ops) k (T p) ≡ is before → κ .ops .place k ≤ p → dist N (κ .ops .place k) (suc p) < dist N (κ .ops .place k) p
+    nearer-right : (p : ℕ) → versus (κ .kind) k (T p) ≡ is before → κ .kind .place k ≤ p → dist N (κ .kind .place k) (suc p) < dist N (κ .kind .place k) p
     nearer-right p v le =
         let i = inside p (versus-occ κ k (T p) before v) in
-        let d = dist-right N (κ .ops .place k) (suc p) (omega arith) in
-        ⊎-elim (λ (a : κ .ops .place k < p). let e = dist-right N (κ .ops .place k) p a in omega arith) (λ a. let e = dist-home N (κ .ops .place k) p (omega arith) in omega arith) (cases-lt (κ .ops .place k) p)
+        let d = dist-right N (κ .kind .place k) (suc p) (omega arith) in
+        ⊎-elim (λ (a : κ .kind .place k < p). let e = dist-right N (κ .kind .place k) p a in omega arith) (λ a. let e = dist-home N (κ .kind .place k) p (omega arith) in omega arith) (cases-lt (κ .kind .place k) p)
 
-    walk-f : (p : ℕ) (v : Versus) → versus (κ .ops) k (T p) ≡ v → (q : ℕ) → walk-at (κ .ops) (κ .ops .place k) p v ≡ on q → dist N (κ .ops .place k) q < dist N (κ .ops .place k) p
+    walk-f : (p : ℕ) (v : Versus) → versus (κ .kind) k (T p) ≡ v → (q : ℕ) → walk-at (κ .kind .place k) p v ≡ Onward q → dist N (κ .kind .place k) q < dist N (κ .kind .place k) p
     walk-f p none e q w = let z : _≡_ {A = ℕ} 0 1 = cc in absurd (omega arith)
     walk-f p (is same) e q w = let z : _≡_ {A = ℕ} 0 1 = cc in absurd (omega arith)
-    walk-f p (is after) e q w = by-test (leb p (κ .ops .place k)) refl w
+    walk-f p (is after) e q w = by-test (leb p (κ .kind .place k)) refl w
       where
-        by-test : (b : Bool) → leb p (κ .ops .place k) ≡ b → cond b (on (pred p)) over ≡ on q → dist N (κ .ops .place k) q < dist N (κ .ops .place k) p
-        by-test true t w = subst (λ y. dist N (κ .ops .place k) y < dist N (κ .ops .place k) p) (let z : pred p ≡ q = cc in z) (nearer-left p e (leb-true p (κ .ops .place k) t))
+        by-test : (b : Bool) → leb p (κ .kind .place k) ≡ b → cond b (Onward (pred p)) Ended ≡ Onward q → dist N (κ .kind .place k) q < dist N (κ .kind .place k) p
+        by-test true t w = subst (λ y. dist N (κ .kind .place k) y < dist N (κ .kind .place k) p) (let z : pred p ≡ q = cc in z) (nearer-left p e (leb-true p (κ .kind .place k) t))
         by-test false t w = let z : _≡_ {A = ℕ} 0 1 = cc in absurd (omega arith)
-    walk-f p (is before) e q w = by-test (leb (κ .ops .place k) p) refl w
+    walk-f p (is before) e q w = by-test (leb (κ .kind .place k) p) refl w
       where
-        by-test : (b : Bool) → leb (κ .ops .place k) p ≡ b → cond b (on (suc p)) over ≡ on q → dist N (κ .ops .place k) q < dist N (κ .ops .place k) p
-        by-test true t w = subst (λ y. dist N (κ .ops .place k) y < dist N (κ .ops .place k) p) (let z : suc p ≡ q = cc in z) (nearer-right p e (leb-true (κ .ops .place k) p t))
+        by-test : (b : Bool) → leb (κ .kind .place k) p ≡ b → cond b (Onward (suc p)) Ended ≡ Onward q → dist N (κ .kind .place k) q < dist N (κ .kind .place k) p
+        by-test true t w = subst (λ y. dist N (κ .kind .place k) y < dist N (κ .kind .place k) p) (let z : suc p ≡ q = cc in z) (nearer-right p e (leb-true (κ .kind .place k) p t))
         by-test false t w = let z : _≡_ {A = ℕ} 0 1 = cc in absurd (omega arith)
 
-    look-f : (p : ℕ) (w : Walk) → ((q : ℕ) → w ≡ on q → dist N (κ .ops .place k) q < dist N (κ .ops .place k) p) → Falls (look p) (at-look (κ .ops) (κ .ops .place k) w .next)
+    look-f : (p : ℕ) (w : Walk) → ((q : ℕ) → w ≡ Onward q → dist N (κ .kind .place k) q < dist N (κ .kind .place k) p) → Falls (Look p) (at-look {K = K} (κ .kind .place k) w .next)
     unfolding Falls Wide left-over
-    look-f p hit f = inr (tt, omega arith, refl)
-    look-f p over f = let b = κ .place-high k in inr (omega arith, omega arith, refl)
-    look-f p (on q) f = let d = f q refl in inr (tt, omega arith, refl)
+    look-f p Here f = inr (tt, omega arith, refl)
+    look-f p Ended f = let b = κ .place-high k in inr (omega arith, omega arith, refl)
+    look-f p (Onward q) f = let d = f q refl in inr (tt, omega arith, refl)
 
-    left-f : (p : ℕ) → p ≤ N → (b o : Bool) → occ (T p) ≡ o → Falls (left p) (at-left (κ .ops) (κ .ops .place k) p b o .next)
+    left-f : (p : ℕ) → p ≤ N → (b o : Bool) → is-occupied (T p) ≡ o → Falls (Left p) (at-left {K = K} (κ .kind .place k) p b o .next)
     unfolding Falls Wide left-over
     left-f p le true o e = inl refl
     left-f p le false true e = let i = inside p e in inr (omega arith, omega arith, refl)
     left-f p le false false e = let b = κ .place-high k in inr (omega arith, omega arith, refl)
 
-    right-f : (l p : ℕ) → p ≤ suc N → (b o : Bool) → occ (T p) ≡ o → Falls (right l p) (at-right (κ .ops) l p b o .next)
+    right-f : (l p : ℕ) → p ≤ suc N → (b o : Bool) → is-occupied (T p) ≡ o → Falls (Right l p) (at-right {K = K} l p b o .next)
     unfolding Falls Wide left-over
     right-f l p le true o e = inl refl
     right-f l p le false true e = let i = inside p e in inr (omega arith, omega arith, refl)
     right-f l p le false false e = inr (le, omega arith, refl)
 
-    first-f : (l r : ℕ) → r ≤ suc N → (c b o : Bool) → Falls (first l r) (at-first (κ .ops) l r c b o .next)
+    first-f : (l r : ℕ) → r ≤ suc N → (c b o : Bool) → Falls (FirstMark l r) (at-first {K = K} l r c b o .next)
     unfolding Falls Wide left-over
     first-f l r le false b o = inr (le, omega arith, refl)
     first-f l r le true true o = inl refl
     first-f l r le true false true = inl refl
     first-f l r le true false false = inr (le, omega arith, refl)
 
-    give-f : (l r : ℕ) (c : Bool) → Falls (second l r) (give-up (κ .ops) l c .next)
+    give-f : (l r : ℕ) (c : Bool) → Falls (SecondMark l r) (give-up {K = K} l c .next)
     unfolding Falls Wide left-over
     give-f l r true = inr (tt, omega arith, refl)
     give-f l r false = inl refl
 
-    second-f : (l r : ℕ) → r ≤ suc N → (c b o : Bool) → Falls (second l r) (at-second (κ .ops) (κ .ops .place k) l r c b o .next)
+    second-f : (l r : ℕ) → r ≤ suc N → (a c b o : Bool) → Falls (SecondMark l r) (at-second {K = K} (κ .kind .place k) l r a c b o .next)
     unfolding Falls Wide left-over
-    second-f l r le false b o = let d = dist-home N (κ .ops .place k) (κ .ops .place k) refl in inr (le, omega arith, refl)
-    second-f l r le true true o = give-f l r (cell N l)
-    second-f l r le true false true = give-f l r (cell N l)
-    second-f l r le true false false = let d = dist-home N (κ .ops .place k) (κ .ops .place k) refl in inr (le, omega arith, refl)
+    second-f l r le a false b o = let d = dist-home N (κ .kind .place k) (κ .kind .place k) refl in inr (le, omega arith, refl)
+    second-f l r le a true true o = give-f l r a
+    second-f l r le a true false true = give-f l r a
+    second-f l r le a true false false = let d = dist-home N (κ .kind .place k) (κ .kind .place k) refl in inr (le, omega arith, refl)
 
-    walked-f : (l r p : ℕ) → r ≤ suc N → (b d : Bool) → Falls (check l r p) (walked (κ .ops) l r b d .next)
+    absent-f : (l r p : ℕ) → r ≤ suc N → (x y b : Bool) → Falls (Check l r p) (absent {K = K} l r x y b .next)
     unfolding Falls Wide left-over
-    walked-f l r p le true d = inr (tt, omega arith, refl)
-    walked-f l r p le false true = inr (tt, omega arith, refl)
-    walked-f l r p le false false = inr (tt, omega arith, refl)
+    absent-f l r p le false false b = inr (tt, omega arith, refl)
+    absent-f l r p le false true b = inr (tt, omega arith, refl)
+    absent-f l r p le true false b = inr (tt, omega arith, refl)
+    absent-f l r p le true true true = inr (tt, omega arith, refl)
+    absent-f l r p le true true false = inr (tt, omega arith, refl)
 
-    check-f : (l r p : ℕ) → r ≤ suc N → (v : Versus) (w : Walk) → ((q : ℕ) → w ≡ on q → dist N (κ .ops .place k) q < dist N (κ .ops .place k) p) → Falls (check l r p) (at-check (κ .ops) l r v w .next)
+    check-f : (l r p : ℕ) → r ≤ suc N → (x y b : Bool) (w : Walk) → ((q : ℕ) → w ≡ Onward q → dist N (κ .kind .place k) q < dist N (κ .kind .place k) p) → Falls (Check l r p) (at-check {K = K} l r x y b w .next)
     unfolding Falls Wide left-over
-    check-f l r p le v hit f = inr (tt, omega arith, refl)
-    check-f l r p le v over f = walked-f l r p le (both-edges (κ .ops) l r) (from-right (κ .ops) l r v)
-    check-f l r p le v (on q) f = let d = f q refl in inr (le, omega arith, refl)
+    check-f l r p le x y b Here f = inr (tt, omega arith, refl)
+    check-f l r p le x y b Ended f = absent-f l r p le x y b
+    check-f l r p le x y b (Onward q) f = let d = f q refl in inr (le, omega arith, refl)
 
-    shift-left-f : (l r g : ℕ) (v : Versus) → versus (κ .ops) k (T (pred g)) ≡ v → Falls (shift leftward l r g) (at-shift-left (κ .ops) k l r g (T (pred g)) v .next)
+    copied-f : (d : Direction) (l r g : ℕ) (x : K) → is-occupied (T (beside d g)) ≡ true → (b : Bool) → Falls (Shift d l r g) (copied k d l r g x b .next)
     unfolding Falls Wide left-over
-    shift-left-f l r g none e = inr (tt, omega arith, refl)
-    shift-left-f l r g (is before) e = inr (tt, omega arith, refl)
-    shift-left-f l r g (is same) e = inr (tt, omega arith, refl)
-    shift-left-f l r g (is after) e = let i = inside (pred g) (versus-occ κ k (T (pred g)) after e) in inr (tt, omega arith, refl)
+    copied-f Leftward l r g x o true = let i = inside g o in let z : pred g + 4 < g + 4 = omega arith in inr (tt, z, refl)
+    copied-f Leftward l r g x o false = inr (tt, omega arith, refl)
+    copied-f Rightward l r g x o true = let i = inside (suc (suc g)) o in let z : (N - suc g) + 3 < (N - g) + 3 = omega arith in inr (tt, z, refl)
+    copied-f Rightward l r g x o false = inr (tt, omega arith, refl)
 
-    shift-right-f : (l r g : ℕ) (v : Versus) → versus (κ .ops) k (T (suc g)) ≡ v → Falls (shift rightward l r g) (at-shift-right (κ .ops) k l r g (T (suc g)) v .next)
+    settles-f : (d : Direction) (l r g : ℕ) → Falls (Shift d l r g) (ReleaseLeft l r Inserted)
     unfolding Falls Wide left-over
-    shift-right-f l r g none e = inr (tt, omega arith, refl)
-    shift-right-f l r g (is after) e = inr (tt, omega arith, refl)
-    shift-right-f l r g (is same) e = inr (tt, omega arith, refl)
-    shift-right-f l r g (is before) e = let i = inside (suc g) (versus-occ κ k (T (suc g)) before e) in inr (tt, omega arith, refl)
+    settles-f Leftward l r g = inr (tt, omega arith, refl)
+    settles-f Rightward l r g = inr (tt, omega arith, refl)
 
-    release-f : (l r : ℕ) (a : Answer) (c : Bool) → Falls (unleft l r a) (release (κ .ops) l c (unright r a) .next)
+    shift-f : (d : Direction) (l r g : ℕ) (c : Content K) → T (beside d g) ≡ c → Falls (Shift d l r g) (at-shift (κ .kind) k d l r g c .next)
+    shift-f d l r g empty e = settles-f d l r g
+    shift-f d l r g (holds x) e = copied-f d l r g x (holds-occ e) (copy-due d (κ .kind .order x k))
+
+    release-f : (l r : ℕ) (a : Answer) (c : Bool) → Falls (ReleaseLeft l r a) (release {K = K} l c (ReleaseRight r a) .next)
     unfolding Falls Wide left-over
     release-f l r a true = inr (tt, omega arith, refl)
     release-f l r a false = inr (tt, omega arith, refl)
 
-    release-r-f : (r : ℕ) (a : Answer) (c : Bool) → Falls (unright r a) (release (κ .ops) r c (answered a) .next)
+    release-r-f : (r : ℕ) (a : Answer) (c : Bool) → Falls (ReleaseRight r a) (release {K = K} r c (Answered a) .next)
     unfolding Falls Wide left-over
     release-r-f r a true = inr (tt, omega arith, refl)
     release-r-f r a false = inr (tt, omega arith, refl)
 
-    pub falls : (x : Stage) → busy x ≡ true → Wide N x → Falls x (move (κ .ops) k x T M .next)
+    pub falls : (x : Stage) → busy x ≡ true → Wide N x → Falls x (decide (κ .kind) k x T M .next)
     unfolding Wide Falls
-    falls idle b w = absurd (both-ways false refl b)
-    falls home b w = home-f (M (κ .ops .place k)) (versus (κ .ops) k (T (κ .ops .place k))) refl
-    falls (look p) b w = look-f p (walk-at (κ .ops) (κ .ops .place k) p (versus (κ .ops) k (T p))) (walk-f p (versus (κ .ops) k (T p)) refl)
-    falls (left p) b w = left-f p w (M p) (occ (T p)) refl
-    falls (right l p) b w = right-f l p w (M p) (occ (T p)) refl
-    falls (first l r) b w = first-f l r w (cell N l) (M l) (occ (T l))
-    falls (second l r) b w = second-f l r w (cell N r) (M r) (occ (T r))
-    falls (back l) b w = inl refl
-    falls (check l r p) b w = check-f l r p w (versus (κ .ops) k (T (κ .ops .place k))) (walk-at (κ .ops) (κ .ops .place k) p (versus (κ .ops) k (T p))) (walk-f p (versus (κ .ops) k (T p)) refl)
-    falls (shift leftward l r g) b w = shift-left-f l r g (versus (κ .ops) k (T (pred g))) refl
-    falls (shift rightward l r g) b w = shift-right-f l r g (versus (κ .ops) k (T (suc g))) refl
-    falls (unleft l r a) b w = release-f l r a (cell N l)
-    falls (unright r a) b w = release-r-f r a (cell N r)
-    falls (answered a) b w = absurd (both-ways false refl b)
+    falls Idle b w = absurd (both-ways false refl b)
+    falls Home b w = home-f (M (κ .kind .place k)) (versus (κ .kind) k (T (κ .kind .place k))) refl
+    falls (Look p) b w = look-f p (walk-at (κ .kind .place k) p (versus (κ .kind) k (T p))) (walk-f p (versus (κ .kind) k (T p)) refl)
+    falls (Left p) b w = left-f p w (M p) (is-occupied (T p)) refl
+    falls (Right l p) b w = right-f l p w (M p) (is-occupied (T p)) refl
+    falls (FirstMark l r) b w = first-f l r w (cell N l) (M l) (is-occupied (T l))
+    falls (SecondMark l r) b w = second-f l r w (cell N l) (cell N r) (M r) (is-occupied (T r))
+    falls (GiveBack g) b w = inl refl
+    falls (Check l r p) b w = check-f l r p w (cell N l) (cell N r) (is-after (versus (κ .kind) k (T (κ .kind .place k)))) (walk-at (κ .kind .place k) p (versus (κ .kind) k (T p))) (walk-f p (versus (κ .kind) k (T p)) refl)
+    falls (Shift d l r g) b w = shift-f d l r g (T (beside d g)) refl
+    falls (ReleaseLeft l r a) b w = release-f l r a (cell N l)
+    falls (ReleaseRight r a) b w = release-r-f r a (cell N r)
+    falls (Answered a) b w = absurd (both-ways false refl b)
 
-  pub slots-inside : (cs : List (Cell K)) → length cs ≡ N → (p : ℕ) → occ (slots cs p) ≡ true → (0 < p) × (p ≤ N)
-  slots-inside cs size zero o = absurd (both-ways false refl o)
-  slots-inside cs size (suc i) o = (omega arith, ⊎-elim (λ (a : N < suc i). absurd (not-both (slots-past cs (suc i) (omega arith)) o)) (λ a. a) (cases-lt N (suc i)))
+  pub contents-inside : (cs : List (Cell K)) → length cs ≡ N → (p : ℕ) → is-occupied (contents cs p) ≡ true → (0 < p) × (p ≤ N)
+  contents-inside cs size zero o = absurd (both-ways false refl o)
+  contents-inside cs size (suc i) o = (omega arith, ⊎-elim (λ (a : N < suc i). absurd (not-both (contents-past cs (suc i) (omega arith)) o)) (λ a. a) (cases-lt N (suc i)))
 
-  pub positive : (x : Stage) → busy x ≡ true → 0 < left-over N (κ .ops .place k) x
+  pub positive : (x : Stage) → busy x ≡ true → 0 < left-over N (κ .kind .place k) x
   unfolding left-over
-  positive idle b = absurd (both-ways false refl b)
-  positive home b = omega arith
-  positive (look p) b = omega arith
-  positive (left p) b = omega arith
-  positive (right l p) b = omega arith
-  positive (first l r) b = omega arith
-  positive (second l r) b = omega arith
-  positive (back l) b = omega arith
-  positive (check l r p) b = omega arith
-  positive (shift leftward l r g) b = omega arith
-  positive (shift rightward l r g) b = omega arith
-  positive (unleft l r a) b = omega arith
-  positive (unright r a) b = omega arith
-  positive (answered a) b = absurd (both-ways false refl b)
+  positive Idle b = absurd (both-ways false refl b)
+  positive Home b = omega arith
+  positive (Look p) b = omega arith
+  positive (Left p) b = omega arith
+  positive (Right l p) b = omega arith
+  positive (FirstMark l r) b = omega arith
+  positive (SecondMark l r) b = omega arith
+  positive (GiveBack g) b = omega arith
+  positive (Check l r p) b = omega arith
+  positive (Shift Leftward l r g) b = omega arith
+  positive (Shift Rightward l r g) b = omega arith
+  positive (ReleaseLeft l r a) b = omega arith
+  positive (ReleaseRight r a) b = omega arith
+  positive (Answered a) b = absurd (both-ways false refl b)
 
-  -- with enough steps, their number does not count
-  same-at : (number n m : ℕ) (cs : List (Cell K)) (x y : Stage) → Falls x y → left-over N (κ .ops .place k) x ≤ suc n → left-over N (κ .ops .place k) x ≤ suc m
-      → (busy y ≡ true → Wide N y → left-over N (κ .ops .place k) y ≤ n → left-over N (κ .ops .place k) y ≤ m → alone (κ .ops) number n k cs y ≡ alone (κ .ops) number m k cs y)
-      → alone-at cs y (alone (κ .ops) number n k cs y) ≡ alone-at cs y (alone (κ .ops) number m k cs y)
-  unfolding Falls
-  same-at number n m cs x y (inl e) a b h = ap (λ z. alone-at cs z (alone (κ .ops) number n k cs y)) e ∙ sym (ap (λ z. alone-at cs z (alone (κ .ops) number m k cs y)) e)
-  same-at number n m cs x y (inr f) a b h = go y (f .0) (omega arith) (omega arith) h
+  -- so its steps are over before their number is
+  pub alone-ends : (n : ℕ) (cs : List (Cell K)) (x : Stage) → length cs ≡ N → busy x ≡ true → Wide N x → left-over N (κ .kind .place k) x ≤ n → Ended-stage (alone (κ .kind) n k cs x .1)
+  unfolding alone Falls
+  alone-ends zero cs x size b w le = let z = positive x b in absurd (omega arith)
+  alone-ends (suc n) cs x size b w le =
+      let m = decision (κ .kind) cs k x in
+      let after-it = cells-after (m .act) cs in
+      ⊎-elim
+        (λ e. inl (ap (λ y. ends-by (standing y) (after-it, m .next) (alone (κ .kind) n k after-it (m .next)) .1) e ∙ e))
+        (λ f. by-standing after-it (m .next) (alone (κ .kind) n k after-it (m .next)) (standing (m .next)) (stage-is (m .next)) refl (f .2)
+          (λ u. alone-ends n after-it (m .next) (length-after (m .act) cs ∙ size) u (f .0) (omega arith)))
+        (falls (contents cs) (marks cs) (contents-inside cs size) x b w)
     where
-      go : (y : Stage) → Wide N y → left-over N (κ .ops .place k) y ≤ n → left-over N (κ .ops .place k) y ≤ m
-        → (busy y ≡ true → Wide N y → left-over N (κ .ops .place k) y ≤ n → left-over N (κ .ops .place k) y ≤ m → alone (κ .ops) number n k cs y ≡ alone (κ .ops) number m k cs y)
-        → alone-at cs y (alone (κ .ops) number n k cs y) ≡ alone-at cs y (alone (κ .ops) number m k cs y)
-      go idle w c d h = refl
-      go home w c d h = refl
-      go (look p) w c d h = h refl w c d
-      go (left p) w c d h = h refl w c d
-      go (right l p) w c d h = h refl w c d
-      go (first l r) w c d h = h refl w c d
-      go (second l r) w c d h = h refl w c d
-      go (back l) w c d h = h refl w c d
-      go (check l r p) w c d h = h refl w c d
-      go (shift e l r p) w c d h = h refl w c d
-      go (unleft l r a) w c d h = h refl w c d
-      go (unright r a) w c d h = h refl w c d
-      go (answered a) w c d h = refl
-
-  pub same-alone : (number n m : ℕ) (cs : List (Cell K)) (x : Stage) → length cs ≡ N → busy x ≡ true → Wide N x → left-over N (κ .ops .place k) x ≤ n → left-over N (κ .ops .place k) x ≤ m → alone (κ .ops) number n k cs x ≡ alone (κ .ops) number m k cs x
-  unfolding alone
-  same-alone number zero m cs x size b w a c = let z = positive x b in absurd (omega arith)
-  same-alone number (suc n) zero cs x size b w a c = let z = positive x b in absurd (omega arith)
-  same-alone number (suc n) (suc m) cs x size b w a c =
-      let v = move (κ .ops) k x (slots cs) (marks cs) in
-      same-at number n m (cells-after (v .act) cs) x (v .next) (falls (slots cs) (marks cs) (slots-inside cs size) x b w) a c
-        (λ b′ w′ a′ c′. same-alone number n m (cells-after (v .act) cs) (v .next) (length-after (v .act) cs ∙ size) b′ w′ a′ c′)
-
-  -- so a whole entry never runs out
-  pub never-out : (number n : ℕ) (cs : List (Cell K)) → length cs ≡ N → 5 * N + 20 ≤ n → alone (κ .ops) number (5 * N + 20) k cs home ≡ alone (κ .ops) number n k cs home
-  unfolding Wide left-over
-  never-out number n cs size le = same-alone number (5 * N + 20) n cs home size refl tt (omega arith) (omega arith)
+      by-standing : (cs : List (Cell K)) (x : Stage) (o : List (Cell K) × Stage) (y : Standing) → Told x y → standing x ≡ y → is-idle x ≡ false → (busy x ≡ true → Ended-stage (o .1)) → Ended-stage (ends-by y (cs, x) o .1)
+      by-standing cs x o resting t e i h = absurd (both-ways (is-idle x) i (ap idle-by e))
+      by-standing cs x o homing t e i h = inl t
+      by-standing cs x o under-way t e i h = h (ap busy-by e)
+      by-standing cs x o (done a) t e i h = inr (a, t)

@@ -1,16 +1,17 @@
 -- Marked boundaries keep regions apart.
 use mathlib.Core.Path.{_≡_, refl, sym, ap, _∙_, subst}
 use mathlib.Core.Logic.{_⊎_, inl, inr, ⊎-elim, _≢_}
-use mathlib.Core.Bool.{Bool, true, false, cond, _&&_, _||_}
-use Prim.Native.Nat.{ℕ, zero, suc, _+_, _≤_, _<_, pred}
+use mathlib.Core.Bool.{Bool, true, false, _&&_, _||_}
+use Prim.Native.Nat.{ℕ, suc, _≤_, _<_}
 use native.Mathlib.Omega.{arith}
-use lib.Dec.{eqb, ltb, leb}
+use lib.Dec.{eqb}
 use Rattle.std.proofs.shelf.Tests.{cases-lt, cases-eq, both-ways}
-use Rattle.std.proofs.shelf.Ways.{tells}
-use Rattle.protocol.specs.Machine.{Kind, Rank, before, same, after, Content, empty, holds, occ, upd, Versus, none, is, versus, Answer, found, inserted, full, from-right, Stage, idle, home, look, left, right, first, second, back, check, shift, unleft, unright, answered, Side, leftward, rightward, cell}
-use Rattle.protocol.proofs.Flow.{holder}
-use Rattle.protocol.proofs.Basics.{upd-same, upd-at, upd-other, not-both, holds-occ}
-use Rattle.protocol.proofs.Inv.{Owner, free, by, taken, is-by, is-by-true, by-inj, Keeps, In-shift, Solid, Region, Checking, Shifting-left, Shifting-right, Good, Core, own, marked-by}
+use Rattle.protocol.specs.Cells.{Content, empty, cell}
+use Rattle.protocol.specs.Stages.{Leftward, Rightward, Stage, Idle, Home, Look, Left, Right, FirstMark, SecondMark, GiveBack, Check, Shift, ReleaseLeft, ReleaseRight, Answered}
+use Rattle.protocol.proofs.Lawful.{Lawful}
+use Rattle.protocol.proofs.Basics.{not-both}
+use Rattle.protocol.proofs.Standings.{holder}
+use Rattle.protocol.proofs.Inv.{Owner, by, Keeps, In-shift, by-inj, Region, Good, Core, own, marked-by}
 
 pub hold-l : (N l r : ℕ) → 0 < l → l ≤ N → ((eqb l l || eqb l r) && cell N l) ≡ true
 hold-l N l r a b = grind arith
@@ -21,7 +22,7 @@ hold-r N l r a b = grind arith
 pub hold-one : (N l p : ℕ) → p ≡ l → 0 < p → p ≤ N → (eqb p l && cell N p) ≡ true
 hold-one N l p e a b = grind arith
 
-module _ {K : Type 0} {N : ℕ} (κ : Kind K N) {T : ℕ → Content K} {M : ℕ → Bool} {O : ℕ → Owner} {ky : ℕ → K} {st : ℕ → Stage} {S : ℕ → Content K} (c : Core κ T M O ky st S) where
+module _ {K : Type 0} {N : ℕ} (κ : Lawful K N) {T : ℕ → Content K} {M : ℕ → Bool} {O : ℕ → Owner} {ky : ℕ → K} {st : ℕ → Stage} {S : ℕ → Content K} (c : Core κ T M O ky st S) where
   pub good-at : (t : ℕ) (x : Stage) → st t ≡ x → Good κ T M S (ky t) x
   good-at t x e = subst (λ y. Good κ T M S (ky t) y) e (c .good t)
 
@@ -40,14 +41,14 @@ module _ {K : Type 0} {N : ℕ} (κ : Kind K N) {T : ℕ → Content K} {M : ℕ
         own-r = λ z. own κ c t x e r (ho r ∙ hold-r N l r (omega arith) z);
       }
 
-  pub fence-check : (t l r p : ℕ) → st t ≡ check l r p → Fence t l r
-  fence-check t l r p e = fence t l r (check l r p) e (λ q. refl) (good-at t (check l r p) e .region)
+  pub fence-check : (t l r p : ℕ) → st t ≡ Check l r p → Fence t l r
+  fence-check t l r p e = fence t l r (Check l r p) e (λ q. refl) (good-at t (Check l r p) e .region)
 
-  pub fence-left : (t l r g : ℕ) → st t ≡ shift leftward l r g → Fence t l r
-  fence-left t l r g e = fence t l r (shift leftward l r g) e (λ q. refl) (good-at t (shift leftward l r g) e .region)
+  pub fence-left : (t l r g : ℕ) → st t ≡ Shift Leftward l r g → Fence t l r
+  fence-left t l r g e = fence t l r (Shift Leftward l r g) e (λ q. refl) (good-at t (Shift Leftward l r g) e .region)
 
-  pub fence-right : (t l r g : ℕ) → st t ≡ shift rightward l r g → Fence t l r
-  fence-right t l r g e = fence t l r (shift rightward l r g) e (λ q. refl) (good-at t (shift rightward l r g) e .region)
+  pub fence-right : (t l r g : ℕ) → st t ≡ Shift Rightward l r g → Fence t l r
+  fence-right t l r g e = fence t l r (Shift Rightward l r g) e (λ q. refl) (good-at t (Shift Rightward l r g) e .region)
 
   -- a region around p, with a cell for a boundary
   pub record Around (t p : ℕ) : Type 0 where
@@ -62,40 +63,40 @@ module _ {K : Type 0} {N : ℕ} (κ : Kind K N) {T : ℕ → Content K} {M : ℕ
   around t p h = go (st t) refl h
     where
       go : (x : Stage) → st t ≡ x → In-shift x p → Around t p
-      go idle e h = absurd h
-      go home e h = absurd h
-      go (look q) e h = absurd h
-      go (left q) e h = absurd h
-      go (right l q) e h = absurd h
-      go (first l r) e h = absurd h
-      go (second l r) e h = absurd h
-      go (back l) e h = absurd h
-      go (check l r q) e h = absurd h
-      go (shift leftward l r g) e h = record { l = l; r = r; fenced = fence-left t l r g e; some-cell = inr (good-at t (shift leftward l r g) e .cell-r); l-p = h .0; p-r = h .1 }
-      go (shift rightward l r g) e h = record { l = l; r = r; fenced = fence-right t l r g e; some-cell = inl (good-at t (shift rightward l r g) e .cell-l); l-p = h .0; p-r = h .1 }
-      go (unleft l r a) e h = absurd h
-      go (unright r a) e h = absurd h
-      go (answered a) e h = absurd h
+      go Idle e h = absurd h
+      go Home e h = absurd h
+      go (Look q) e h = absurd h
+      go (Left q) e h = absurd h
+      go (Right l q) e h = absurd h
+      go (FirstMark l r) e h = absurd h
+      go (SecondMark l r) e h = absurd h
+      go (GiveBack g) e h = absurd h
+      go (Check l r q) e h = absurd h
+      go (Shift Leftward l r g) e h = record { l = l; r = r; fenced = fence-left t l r g e; some-cell = inr (good-at t (Shift Leftward l r g) e .cell-r); l-p = h .0; p-r = h .1 }
+      go (Shift Rightward l r g) e h = record { l = l; r = r; fenced = fence-right t l r g e; some-cell = inl (good-at t (Shift Rightward l r g) e .cell-l); l-p = h .0; p-r = h .1 }
+      go (ReleaseLeft l r a) e h = absurd h
+      go (ReleaseRight r a) e h = absurd h
+      go (Answered a) e h = absurd h
 
   -- what t relies on is marked by it, or in its region
   pub relied : (t p : ℕ) → Keeps (st t) p → (0 < p → p ≤ N → O p ≡ by t) ⊎ ((l : ℕ) × (r : ℕ) × Fence t l r × (l ≤ p) × (p ≤ r))
   relied t p h = go (st t) refl h
     where
       go : (x : Stage) → st t ≡ x → Keeps x p → (0 < p → p ≤ N → O p ≡ by t) ⊎ ((l : ℕ) × (r : ℕ) × Fence t l r × (l ≤ p) × (p ≤ r))
-      go idle e h = absurd h
-      go home e h = absurd h
-      go (look q) e h = absurd h
-      go (left q) e h = absurd h
-      go (right l q) e h = absurd h
-      go (first l r) e h = absurd h
-      go (second l r) e h = inl (λ a b. own κ c t (second l r) e p (hold-one N l p h a b))
-      go (back l) e h = absurd h
-      go (check l r q) e h = inr (l, r, fence-check t l r q e, h .0, h .1)
-      go (shift leftward l r g) e h = inr (l, r, fence-left t l r g e, h .0, h .1)
-      go (shift rightward l r g) e h = inr (l, r, fence-right t l r g e, h .0, h .1)
-      go (unleft l r a) e h = absurd h
-      go (unright r a) e h = absurd h
-      go (answered a) e h = absurd h
+      go Idle e h = absurd h
+      go Home e h = absurd h
+      go (Look q) e h = absurd h
+      go (Left q) e h = absurd h
+      go (Right l q) e h = absurd h
+      go (FirstMark l r) e h = absurd h
+      go (SecondMark l r) e h = inl (λ a b. own κ c t (SecondMark l r) e p (hold-one N l p h a b))
+      go (GiveBack g) e h = absurd h
+      go (Check l r q) e h = inr (l, r, fence-check t l r q e, h .0, h .1)
+      go (Shift Leftward l r g) e h = inr (l, r, fence-left t l r g e, h .0, h .1)
+      go (Shift Rightward l r g) e h = inr (l, r, fence-right t l r g e, h .0, h .1)
+      go (ReleaseLeft l r a) e h = absurd h
+      go (ReleaseRight r a) e h = absurd h
+      go (Answered a) e h = absurd h
 
   -- the mark of another is not in the region
   pub outside : (s t l r p : ℕ) → s ≢ t → Fence t l r → O p ≡ by s → 0 < p → p ≤ N → l ≤ p → p ≤ r → ⊥

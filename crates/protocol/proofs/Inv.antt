@@ -1,16 +1,19 @@
 -- What holds of cells, stations and the table of the effects, and what keeps it.
 use mathlib.Core.Path.{_≡_, refl, sym, ap, _∙_, subst}
 use mathlib.Core.Logic.{_⊎_, inl, inr, ⊎-elim, _≢_}
-use mathlib.Core.Bool.{Bool, true, false, cond, _&&_, _||_}
-use Prim.Native.Nat.{ℕ, zero, suc, _+_, _≤_, _<_, pred}
+use mathlib.Core.Bool.{Bool, true, false}
+use Prim.Native.Nat.{ℕ, suc, _≤_, _<_}
 use native.Mathlib.Omega.{arith}
-use lib.Dec.{eqb, ltb, leb}
-use Rattle.std.proofs.shelf.Tests.{cases-lt, cases-eq, eqb-true, eq-eqb, ne-eqb, and-parts, and-from, or-left, or-right, both-ways, lt-ltb, le-leb, ltb-true, leb-true}
-use Rattle.protocol.specs.Machine.{Kind, Rank, before, same, after, Content, empty, holds, occ, upd, Versus, none, is, versus, Answer, found, inserted, full, from-right, Stage, idle, home, look, left, right, first, second, back, check, shift, unleft, unright, answered, Side, leftward, rightward, Act, rest, mark, unmark, put, Effect, nothing, took, Move, move, moved, goes, slots-after, marks-after, cell}
-use Rattle.protocol.specs.OneWorker.{one-worker}
-use Rattle.protocol.proofs.Flow.{holder}
-use Rattle.protocol.proofs.Basics.{upd-same, upd-at, upd-other, not-both, holds-occ, cmp-refl, cmp-turn, cmp-back, by-place, cases-content}
+use lib.Dec.{eqb}
+use Rattle.std.proofs.shelf.Tests.{cases-eq, both-ways, eq-eqb, ne-eqb, eqb-true}
+use Rattle.protocol.specs.Cells.{Content, empty, holds, Act, Rest, Mark, Unmark, Write, cell, is-occupied, updated}
+use Rattle.protocol.specs.Stages.{Answer, Inserted, Leftward, Rightward, Stage, Idle, Home, Look, Left, Right, FirstMark, SecondMark, GiveBack, Check, Shift, ReleaseLeft, ReleaseRight, Answered}
+use Rattle.protocol.specs.Step.{before, after, Effect, nothing, took, is, versus}
+use Rattle.protocol.specs.OneWorker.{starts-right, one-worker}
+use Rattle.protocol.proofs.Lawful.{Lawful}
+use Rattle.protocol.proofs.Basics.{updated-same, updated-at, updated-other, not-both}
 use Rattle.protocol.proofs.Sorted.{Sorted}
+use Rattle.protocol.proofs.Standings.{holder}
 
 pub data Owner : Type 0 where
   free : Owner
@@ -25,41 +28,41 @@ is-by s free = false
 is-by s (by t) = eqb s t
 
 abbrev pub owners-after : {K : Type 0} → ℕ → Act K → (ℕ → Owner) → ℕ → Owner
-owners-after s rest O = O
-owners-after s (mark p) O = upd O p (by s)
-owners-after s (unmark p) O = upd O p free
-owners-after s (put p c) O = O
+owners-after s Rest O = O
+owners-after s (Mark p) O = updated O p (by s)
+owners-after s (Unmark p) O = updated O p free
+owners-after s (Write p k) O = O
 
 -- the positions at which a stage relies on cells and table to stay
 abbrev pub Keeps : Stage → ℕ → Type 0
-Keeps idle q = ⊥
-Keeps home q = ⊥
-Keeps (look p) q = ⊥
-Keeps (left p) q = ⊥
-Keeps (right l p) q = ⊥
-Keeps (first l r) q = ⊥
-Keeps (second l r) q = q ≡ l
-Keeps (back l) q = ⊥
-Keeps (check l r p) q = (l ≤ q) × (q ≤ r)
-Keeps (shift d l r g) q = (l ≤ q) × (q ≤ r)
-Keeps (unleft l r a) q = ⊥
-Keeps (unright r a) q = ⊥
-Keeps (answered a) q = ⊥
+Keeps Idle q = ⊥
+Keeps Home q = ⊥
+Keeps (Look p) q = ⊥
+Keeps (Left p) q = ⊥
+Keeps (Right l p) q = ⊥
+Keeps (FirstMark l r) q = ⊥
+Keeps (SecondMark l r) q = q ≡ l
+Keeps (GiveBack g) q = ⊥
+Keeps (Check l r p) q = (l ≤ q) × (q ≤ r)
+Keeps (Shift d l r g) q = (l ≤ q) × (q ≤ r)
+Keeps (ReleaseLeft l r a) q = ⊥
+Keeps (ReleaseRight r a) q = ⊥
+Keeps (Answered a) q = ⊥
 
 abbrev pub In-shift : Stage → ℕ → Type 0
-In-shift idle q = ⊥
-In-shift home q = ⊥
-In-shift (look p) q = ⊥
-In-shift (left p) q = ⊥
-In-shift (right l p) q = ⊥
-In-shift (first l r) q = ⊥
-In-shift (second l r) q = ⊥
-In-shift (back l) q = ⊥
-In-shift (check l r p) q = ⊥
-In-shift (shift d l r g) q = (l ≤ q) × (q ≤ r)
-In-shift (unleft l r a) q = ⊥
-In-shift (unright r a) q = ⊥
-In-shift (answered a) q = ⊥
+In-shift Idle q = ⊥
+In-shift Home q = ⊥
+In-shift (Look p) q = ⊥
+In-shift (Left p) q = ⊥
+In-shift (Right l p) q = ⊥
+In-shift (FirstMark l r) q = ⊥
+In-shift (SecondMark l r) q = ⊥
+In-shift (GiveBack g) q = ⊥
+In-shift (Check l r p) q = ⊥
+In-shift (Shift d l r g) q = (l ≤ q) × (q ≤ r)
+In-shift (ReleaseLeft l r a) q = ⊥
+In-shift (ReleaseRight r a) q = ⊥
+In-shift (Answered a) q = ⊥
 
 pub is-by-self : (s : ℕ) → is-by s (by s) ≡ true
 is-by-self s = eq-eqb s s refl
@@ -71,29 +74,29 @@ is-by-true s (by t) e = ap by (sym (eqb-true s t e))
 pub by-inj : {o : Owner} {s t : ℕ} → o ≡ by s → o ≡ by t → s ≡ t
 by-inj a b = cc
 
-module _ {K : Type 0} {N : ℕ} (κ : Kind K N) where
+module _ {K : Type 0} {N : ℕ} (κ : Lawful K N) where
   abbrev pub table-after : K → Effect → (ℕ → Content K) → ℕ → Content K
   table-after k nothing S = S
-  table-after k (took a) S = one-worker (κ .ops) S k .0
+  table-after k (took a) S = one-worker (κ .kind) S k .0
 
   -- the answer is that of one worker, no key is lost, and a new one is there
   abbrev pub Right-answer : K → Effect → (ℕ → Content K) → Type 0
   Right-answer k nothing S = Unit {0}
   Right-answer k (took a) S =
-      (one-worker (κ .ops) S k .1 ≡ a) × ((x : K) (p : ℕ) → S p ≡ holds x → (q : ℕ) × (one-worker (κ .ops) S k .0 q ≡ holds x)) × (a ≡ inserted → (q : ℕ) × (one-worker (κ .ops) S k .0 q ≡ holds k))
+      (one-worker (κ .kind) S k .1 ≡ a) × ((x : K) (p : ℕ) → S p ≡ holds x → (q : ℕ) × (one-worker (κ .kind) S k .0 q ≡ holds x)) × (a ≡ Inserted → (q : ℕ) × (one-worker (κ .kind) S k .0 q ≡ holds k))
 
-  pub answer-told : (k : K) (S : ℕ → Content K) (a : Answer) → one-worker (κ .ops) S k ≡ (S, a) → (a ≡ inserted → ⊥) → Right-answer k (took a) S
+  pub answer-told : (k : K) (S : ℕ → Content K) (a : Answer) → one-worker (κ .kind) S k ≡ (S, a) → (a ≡ Inserted → ⊥) → Right-answer k (took a) S
   answer-told k S a w n = (ap (λ z. z .1) w, λ x p h. (p, ap (λ z. z .0 p) w ∙ h), λ e. absurd (n e))
 
-  pub answer-new : (k : K) (S S′ : ℕ → Content K) → one-worker (κ .ops) S k ≡ (S′, inserted) → ((x : K) (p : ℕ) → S p ≡ holds x → (q : ℕ) × (S′ q ≡ holds x)) → (q : ℕ) → S′ q ≡ holds k → Right-answer k (took inserted) S
+  pub answer-new : (k : K) (S S′ : ℕ → Content K) → one-worker (κ .kind) S k ≡ (S′, Inserted) → ((x : K) (p : ℕ) → S p ≡ holds x → (q : ℕ) × (S′ q ≡ holds x)) → (q : ℕ) → S′ q ≡ holds k → Right-answer k (took Inserted) S
   answer-new k S S′ w keep q new = (ap (λ z. z .1) w, λ x p h. let y = keep x p h in (y .0, ap (λ z. z .0 (y .0)) w ∙ y .1), λ e. (q, ap (λ z. z .0 q) w ∙ new))
 
   abbrev pub Solid : (ℕ → Content K) → (ℕ → Bool) → ℕ → Type 0
-  Solid T M p = (M p ≡ false) × (occ (T p) ≡ true)
+  Solid T M p = (M p ≡ false) × (is-occupied (T p) ≡ true)
 
   pub record Region (T : ℕ → Content K) (M : ℕ → Bool) (k : K) (l r : ℕ) : Type 0 where
-    pub l-h : l < κ .ops .place k
-    pub h-r : κ .ops .place k < r
+    pub l-h : l < κ .kind .place k
+    pub h-r : κ .kind .place k < r
     pub top : r ≤ suc N
     pub solid : (p : ℕ) → l < p → p < r → Solid T M p
 
@@ -104,8 +107,8 @@ module _ {K : Type 0} {N : ℕ} (κ : Kind K N) where
     pub agree : (q : ℕ) → l ≤ q → q ≤ r → S q ≡ T q
     pub l-p : l ≤ p
     pub p-r : p ≤ r
-    pub afters : (q : ℕ) → p < q → q ≤ κ .ops .place k → versus (κ .ops) k (S q) ≡ is after
-    pub befores : (q : ℕ) → κ .ops .place k ≤ q → q < p → versus (κ .ops) k (S q) ≡ is before
+    pub afters : (q : ℕ) → p < q → q ≤ κ .kind .place k → versus (κ .kind) k (S q) ≡ is after
+    pub befores : (q : ℕ) → κ .kind .place k ≤ q → q < p → versus (κ .kind) k (S q) ≡ is before
 
   -- the gap g came from r
   pub record Shifting-left (T : ℕ → Content K) (M : ℕ → Bool) (S : ℕ → Content K) (k : K) (l r g : ℕ) : Type 0 where
@@ -118,8 +121,8 @@ module _ {K : Type 0} {N : ℕ} (κ : Kind K N) where
     pub absent : (q : ℕ) → l ≤ q → q ≤ r → S q ≡ holds k → ⊥
     pub kept : (q : ℕ) → l ≤ q → q ≤ g → S q ≡ T q
     pub moved : (q : ℕ) → g ≤ q → q < r → S q ≡ T (suc q)
-    pub afters : (q : ℕ) → g ≤ q → q < r → versus (κ .ops) k (S q) ≡ is after
-    pub chosen : from-right (κ .ops) l r (versus (κ .ops) k (S (κ .ops .place k))) ≡ true
+    pub afters : (q : ℕ) → g ≤ q → q < r → versus (κ .kind) k (S q) ≡ is after
+    pub chosen : starts-right (κ .kind) S k l r ≡ true
 
   -- the gap g came from l
   pub record Shifting-right (T : ℕ → Content K) (M : ℕ → Bool) (S : ℕ → Content K) (k : K) (l r g : ℕ) : Type 0 where
@@ -132,25 +135,25 @@ module _ {K : Type 0} {N : ℕ} (κ : Kind K N) where
     pub absent : (q : ℕ) → l ≤ q → q ≤ r → S q ≡ holds k → ⊥
     pub kept : (q : ℕ) → g ≤ q → q ≤ r → S q ≡ T q
     pub moved : (q : ℕ) → l ≤ q → q < g → S (suc q) ≡ T q
-    pub befores : (q : ℕ) → l < q → q ≤ g → versus (κ .ops) k (S q) ≡ is before
-    pub chosen : from-right (κ .ops) l r (versus (κ .ops) k (S (κ .ops .place k))) ≡ false
+    pub befores : (q : ℕ) → l < q → q ≤ g → versus (κ .kind) k (S q) ≡ is before
+    pub chosen : starts-right (κ .kind) S k l r ≡ false
 
   -- what a station of that stage knows
   abbrev pub Good : (T : ℕ → Content K) (M : ℕ → Bool) (S : ℕ → Content K) → K → Stage → Type 0
-  Good T M S k idle = Unit {0}
-  Good T M S k home = Unit {0}
-  Good T M S k (look p) = Solid T M (κ .ops .place k)
-  Good T M S k (left p) = (p < κ .ops .place k) × ((q : ℕ) → p < q → q ≤ κ .ops .place k → Solid T M q)
-  Good T M S k (right l p) = (l < κ .ops .place k) × (κ .ops .place k < p) × ((q : ℕ) → l < q → q < p → Solid T M q)
-  Good T M S k (first l r) = Region T M k l r
-  Good T M S k (second l r) = Region T M k l r × (T l ≡ empty)
-  Good T M S k (back l) = cell N l ≡ true
-  Good T M S k (check l r p) = Checking T M S k l r p
-  Good T M S k (shift leftward l r g) = Shifting-left T M S k l r g
-  Good T M S k (shift rightward l r g) = Shifting-right T M S k l r g
-  Good T M S k (unleft l r a) = l < r
-  Good T M S k (unright r a) = Unit {0}
-  Good T M S k (answered a) = Unit {0}
+  Good T M S k Idle = Unit {0}
+  Good T M S k Home = Unit {0}
+  Good T M S k (Look p) = Solid T M (κ .kind .place k)
+  Good T M S k (Left p) = (p < κ .kind .place k) × ((q : ℕ) → p < q → q ≤ κ .kind .place k → Solid T M q)
+  Good T M S k (Right l p) = (l < κ .kind .place k) × (κ .kind .place k < p) × ((q : ℕ) → l < q → q < p → Solid T M q)
+  Good T M S k (FirstMark l r) = Region T M k l r
+  Good T M S k (SecondMark l r) = Region T M k l r × (T l ≡ empty)
+  Good T M S k (GiveBack g) = cell N (suc g) ≡ true
+  Good T M S k (Check l r p) = Checking T M S k l r p
+  Good T M S k (Shift Leftward l r g) = Shifting-left T M S k l r (suc g)
+  Good T M S k (Shift Rightward l r g) = Shifting-right T M S k l r (suc g)
+  Good T M S k (ReleaseLeft l r a) = l < r
+  Good T M S k (ReleaseRight r a) = Unit {0}
+  Good T M S k (Answered a) = Unit {0}
 
   pub record Core (T : ℕ → Content K) (M : ℕ → Bool) (O : ℕ → Owner) (ky : ℕ → K) (st : ℕ → Stage) (S : ℕ → Content K) : Type 0 where
     pub edge-low : T 0 ≡ empty
@@ -167,15 +170,15 @@ module _ {K : Type 0} {N : ℕ} (κ : Kind K N) where
     region-stable g = record { l-h = g .l-h; h-r = g .h-r; top = g .top; solid = λ p a b. solid p (g .solid p a b) }
 
     pub good-stable : (k : K) (x : Stage) → ((p : ℕ) → Keeps x p → (T′ p ≡ T p) × (S′ p ≡ S p)) → Good T M S k x → Good T′ M′ S′ k x
-    good-stable k idle keep g = tt
-    good-stable k home keep g = tt
-    good-stable k (look p) keep g = solid (κ .ops .place k) g
-    good-stable k (left p) keep g = (g .0, λ q a b. solid q (g .1 q a b))
-    good-stable k (right l p) keep g = (g .0, g .1, λ q a b. solid q (g .2 q a b))
-    good-stable k (first l r) keep g = region-stable g
-    good-stable k (second l r) keep g = (region-stable (g .0), keep l refl .0 ∙ g .1)
-    good-stable k (back l) keep g = g
-    good-stable k (check l r p) keep g =
+    good-stable k Idle keep g = tt
+    good-stable k Home keep g = tt
+    good-stable k (Look p) keep g = solid (κ .kind .place k) g
+    good-stable k (Left p) keep g = (g .0, λ q a b. solid q (g .1 q a b))
+    good-stable k (Right l p) keep g = (g .0, g .1, λ q a b. solid q (g .2 q a b))
+    good-stable k (FirstMark l r) keep g = region-stable g
+    good-stable k (SecondMark l r) keep g = (region-stable (g .0), keep l refl .0 ∙ g .1)
+    good-stable k (GiveBack q) keep g = g
+    good-stable k (Check l r p) keep g =
         let b = g .region .l-h in let c = g .region .h-r in
         record {
           region = region-stable (g .region);
@@ -187,7 +190,7 @@ module _ {K : Type 0} {N : ℕ} (κ : Kind K N) where
           afters = λ q a b. let d = g .l-p in rw (keep q (omega arith) .1) (g .afters q a b);
           befores = λ q a b. let d = g .p-r in rw (keep q (omega arith) .1) (g .befores q a b);
         }
-    good-stable k (shift leftward l r p) keep g =
+    good-stable k (Shift Leftward l r p) keep g =
         let b = g .region .l-h in let c = g .region .h-r in let d = g .l-g in let e = g .g-r in
         record {
           region = region-stable (g .region);
@@ -200,9 +203,9 @@ module _ {K : Type 0} {N : ℕ} (κ : Kind K N) where
           kept = λ q a b. keep q (omega arith) .1 ∙ g .kept q a b ∙ sym (keep q (omega arith) .0);
           moved = λ q a b. keep q (omega arith) .1 ∙ g .moved q a b ∙ sym (keep (suc q) (omega arith) .0);
           afters = λ q a b. rw (keep q (omega arith) .1) (g .afters q a b);
-          chosen = rw (keep (κ .ops .place k) (omega arith) .1) (g .chosen);
+          chosen = rw (keep (κ .kind .place k) (omega arith) .1) (g .chosen);
         }
-    good-stable k (shift rightward l r p) keep g =
+    good-stable k (Shift Rightward l r p) keep g =
         let b = g .region .l-h in let c = g .region .h-r in let d = g .l-g in let e = g .g-r in
         record {
           region = region-stable (g .region);
@@ -215,11 +218,11 @@ module _ {K : Type 0} {N : ℕ} (κ : Kind K N) where
           kept = λ q a b. keep q (omega arith) .1 ∙ g .kept q a b ∙ sym (keep q (omega arith) .0);
           moved = λ q a b. keep (suc q) (omega arith) .1 ∙ g .moved q a b ∙ sym (keep q (omega arith) .0);
           befores = λ q a b. rw (keep q (omega arith) .1) (g .befores q a b);
-          chosen = rw (keep (κ .ops .place k) (omega arith) .1) (g .chosen);
+          chosen = rw (keep (κ .kind .place k) (omega arith) .1) (g .chosen);
         }
-    good-stable k (unleft l r a) keep g = g
-    good-stable k (unright r a) keep g = tt
-    good-stable k (answered a) keep g = tt
+    good-stable k (ReleaseLeft l r a) keep g = g
+    good-stable k (ReleaseRight r a) keep g = tt
+    good-stable k (Answered a) keep g = tt
 
   module _ {T : ℕ → Content K} {M : ℕ → Bool} {O : ℕ → Owner} {ky : ℕ → K} {st : ℕ → Stage} {S : ℕ → Content K} (c : Core T M O ky st S) (s : ℕ) where
     -- after one step of s, which leaves its stage at next
@@ -233,23 +236,23 @@ module _ {K : Type 0} {N : ℕ} (κ : Kind K N) where
         → Good T′ M′ S′ (ky s) next
         → ((p : ℕ) → (S′ p ≡ T′ p) ⊎ (((t : ℕ) × (s ≢ t) × In-shift (st t) p) ⊎ In-shift next p))
         → Sorted κ S′
-        → Core T′ M′ O′ ky (upd st s next) S′
+        → Core T′ M′ O′ ky (updated st s next) S′
     make T′ M′ O′ S′ next e0 eN own-s own-t mk so keep gd ag sd =
         record {
           edge-low = e0;
           edge-high = eN;
           owned = λ t p. ⊎-elim
-            (λ (e : s ≡ t). ap (λ x. holder N x p) (upd-at st s t next e) ∙ own-s p ∙ ap (λ i. is-by i (O′ p)) e)
-            (λ n. ap (λ x. holder N x p) (upd-other st s t next n) ∙ c .owned t p ∙ own-t t p n)
+            (λ (e : s ≡ t). ap (λ x. holder N x p) (updated-at st s t next e) ∙ own-s p ∙ ap (λ i. is-by i (O′ p)) e)
+            (λ n. ap (λ x. holder N x p) (updated-other st s t next n) ∙ c .owned t p ∙ own-t t p n)
             (cases-eq s t);
           marks = mk;
           good = λ t. ⊎-elim
-            (λ (e : s ≡ t). subst (λ x. Good T′ M′ S′ (ky t) x) (sym (upd-at st s t next e)) (subst (λ i. Good T′ M′ S′ (ky i) next) e gd))
-            (λ n. subst (λ x. Good T′ M′ S′ (ky t) x) (sym (upd-other st s t next n)) (good-stable T T′ M M′ S S′ so (ky t) (st t) (λ p h. keep t p n h) (c .good t)))
+            (λ (e : s ≡ t). subst (λ x. Good T′ M′ S′ (ky t) x) (sym (updated-at st s t next e)) (subst (λ i. Good T′ M′ S′ (ky i) next) e gd))
+            (λ n. subst (λ x. Good T′ M′ S′ (ky t) x) (sym (updated-other st s t next n)) (good-stable T T′ M M′ S S′ so (ky t) (st t) (λ p h. keep t p n h) (c .good t)))
             (cases-eq s t);
           agree = λ p. ⊎-elim inl (⊎-elim
-            (λ h. inr (h .0, subst (λ x. In-shift x p) (sym (upd-other st s (h .0) next (h .1))) (h .2)))
-            (λ h. inr (s, subst (λ x. In-shift x p) (sym (upd-same st s next)) h))) (ag p);
+            (λ h. inr (h .0, subst (λ x. In-shift x p) (sym (updated-other st s (h .0) next (h .1))) (h .2)))
+            (λ h. inr (s, subst (λ x. In-shift x p) (sym (updated-same st s next)) h))) (ag p);
           sorted = sd;
         }
 
@@ -259,7 +262,7 @@ module _ {K : Type 0} {N : ℕ} (κ : Kind K N) where
         (λ h. ⊎-elim (λ (q : s ≡ h .0). inr (inr (sh p (subst (λ y. In-shift y p) (ap st (sym q) ∙ e) (h .1))))) (λ n. inr (inl (h .0, n, h .1))) (cases-eq s (h .0)))
         (c .agree p)
 
-    pub still : (x next : Stage) → st s ≡ x → ((p : ℕ) → holder N next p ≡ holder N x p) → ((p : ℕ) → In-shift x p → In-shift next p) → Good T M S (ky s) next → Core T M O ky (upd st s next) S
+    pub still : (x next : Stage) → st s ≡ x → ((p : ℕ) → holder N next p ≡ holder N x p) → ((p : ℕ) → In-shift x p → In-shift next p) → Good T M S (ky s) next → Core T M O ky (updated st s next) S
     still x next e ho sh gd =
         make T M O S next (c .edge-low) (c .edge-high)
           (λ p. ho p ∙ ap (λ y. holder N y p) (sym e) ∙ c .owned s p) (λ t p n. refl) (c .marks) (λ p a. a) (λ t p n h. (refl, refl)) gd
@@ -273,17 +276,17 @@ module _ {K : Type 0} {N : ℕ} (κ : Kind K N) where
 
     pub marking : (x next : Stage) (p : ℕ) → st s ≡ x → M p ≡ false → T p ≡ empty
         → ((q : ℕ) → p ≢ q → holder N next q ≡ holder N x q) → holder N next p ≡ true
-        → ((q : ℕ) → In-shift x q → In-shift next q) → Good T (upd M p true) S (ky s) next
-        → Core T (upd M p true) (upd O p (by s)) ky (upd st s next) S
+        → ((q : ℕ) → In-shift x q → In-shift next q) → Good T (updated M p true) S (ky s) next
+        → Core T (updated M p true) (updated O p (by s)) ky (updated st s next) S
     marking x next p e um em ho hp sh gd =
-        make T (upd M p true) (upd O p (by s)) S next (c .edge-low) (c .edge-high)
-          (λ q. ⊎-elim (λ (z : p ≡ q). ap (holder N next) (sym z) ∙ hp ∙ sym (ap (is-by s) (upd-at O p q (by s) z) ∙ is-by-self s))
-                  (λ n. ho q n ∙ ap (λ y. holder N y q) (sym e) ∙ c .owned s q ∙ ap (is-by s) (sym (upd-other O p q (by s) n))) (cases-eq p q))
-          (λ t q n. ⊎-elim (λ (z : p ≡ q). not-by t q (sym (ap M z) ∙ um) ∙ sym (ap (is-by t) (upd-at O p q (by s) z) ∙ ne-eqb t s (λ w. n (sym w))))
-                      (λ n′. ap (is-by t) (sym (upd-other O p q (by s) n′))) (cases-eq p q))
-          (λ q. ⊎-elim (λ (z : p ≡ q). upd-at M p q true z ∙ ap taken (sym (upd-at O p q (by s) z)))
-                  (λ n. upd-other M p q true n ∙ c .marks q ∙ ap taken (sym (upd-other O p q (by s) n))) (cases-eq p q))
-          (λ q h. (upd-other M p q true (λ z. not-both (sym (ap T z) ∙ em) (h .1)) ∙ h .0, h .1))
+        make T (updated M p true) (updated O p (by s)) S next (c .edge-low) (c .edge-high)
+          (λ q. ⊎-elim (λ (z : p ≡ q). ap (holder N next) (sym z) ∙ hp ∙ sym (ap (is-by s) (updated-at O p q (by s) z) ∙ is-by-self s))
+                  (λ n. ho q n ∙ ap (λ y. holder N y q) (sym e) ∙ c .owned s q ∙ ap (is-by s) (sym (updated-other O p q (by s) n))) (cases-eq p q))
+          (λ t q n. ⊎-elim (λ (z : p ≡ q). not-by t q (sym (ap M z) ∙ um) ∙ sym (ap (is-by t) (updated-at O p q (by s) z) ∙ ne-eqb t s (λ w. n (sym w))))
+                      (λ n′. ap (is-by t) (sym (updated-other O p q (by s) n′))) (cases-eq p q))
+          (λ q. ⊎-elim (λ (z : p ≡ q). updated-at M p q true z ∙ ap taken (sym (updated-at O p q (by s) z)))
+                  (λ n. updated-other M p q true n ∙ c .marks q ∙ ap taken (sym (updated-other O p q (by s) n))) (cases-eq p q))
+          (λ q h. (updated-other M p q true (λ z. not-both (sym (ap T z) ∙ em) (h .1)) ∙ h .0, h .1))
           (λ t q n h. (refl, refl)) gd (agree-still x next e sh) (c .sorted)
       where
         not-by : (t q : ℕ) → M q ≡ false → is-by t (O q) ≡ false
@@ -295,15 +298,15 @@ module _ {K : Type 0} {N : ℕ} (κ : Kind K N) where
 
     pub unmarking : (x next : Stage) (p : ℕ) → st s ≡ x → O p ≡ by s
         → ((q : ℕ) → p ≢ q → holder N next q ≡ holder N x q) → holder N next p ≡ false
-        → ((q : ℕ) → In-shift x q → In-shift next q) → Good T (upd M p false) S (ky s) next
-        → Core T (upd M p false) (upd O p free) ky (upd st s next) S
+        → ((q : ℕ) → In-shift x q → In-shift next q) → Good T (updated M p false) S (ky s) next
+        → Core T (updated M p false) (updated O p free) ky (updated st s next) S
     unmarking x next p e ow ho hp sh gd =
-        make T (upd M p false) (upd O p free) S next (c .edge-low) (c .edge-high)
-          (λ q. ⊎-elim (λ (z : p ≡ q). ap (holder N next) (sym z) ∙ hp ∙ sym (ap (is-by s) (upd-at O p q free z)))
-                  (λ n. ho q n ∙ ap (λ y. holder N y q) (sym e) ∙ c .owned s q ∙ ap (is-by s) (sym (upd-other O p q free n))) (cases-eq p q))
-          (λ t q n. ⊎-elim (λ (z : p ≡ q). ap (is-by t) (sym (ap O z) ∙ ow) ∙ ne-eqb t s (λ w. n (sym w)) ∙ sym (ap (is-by t) (upd-at O p q free z)))
-                      (λ n′. ap (is-by t) (sym (upd-other O p q free n′))) (cases-eq p q))
-          (λ q. ⊎-elim (λ (z : p ≡ q). upd-at M p q false z ∙ ap taken (sym (upd-at O p q free z)))
-                  (λ n. upd-other M p q false n ∙ c .marks q ∙ ap taken (sym (upd-other O p q free n))) (cases-eq p q))
-          (λ q h. (⊎-elim (λ (z : p ≡ q). upd-at M p q false z) (λ n. upd-other M p q false n ∙ h .0) (cases-eq p q), h .1))
+        make T (updated M p false) (updated O p free) S next (c .edge-low) (c .edge-high)
+          (λ q. ⊎-elim (λ (z : p ≡ q). ap (holder N next) (sym z) ∙ hp ∙ sym (ap (is-by s) (updated-at O p q free z)))
+                  (λ n. ho q n ∙ ap (λ y. holder N y q) (sym e) ∙ c .owned s q ∙ ap (is-by s) (sym (updated-other O p q free n))) (cases-eq p q))
+          (λ t q n. ⊎-elim (λ (z : p ≡ q). ap (is-by t) (sym (ap O z) ∙ ow) ∙ ne-eqb t s (λ w. n (sym w)) ∙ sym (ap (is-by t) (updated-at O p q free z)))
+                      (λ n′. ap (is-by t) (sym (updated-other O p q free n′))) (cases-eq p q))
+          (λ q. ⊎-elim (λ (z : p ≡ q). updated-at M p q false z ∙ ap taken (sym (updated-at O p q free z)))
+                  (λ n. updated-other M p q false n ∙ c .marks q ∙ ap taken (sym (updated-other O p q free n))) (cases-eq p q))
+          (λ q h. (⊎-elim (λ (z : p ≡ q). updated-at M p q false z) (λ n. updated-other M p q false n ∙ h .0) (cases-eq p q), h .1))
           (λ t q n h. (refl, refl)) gd (agree-still x next e sh) (c .sorted)

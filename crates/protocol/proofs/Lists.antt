@@ -1,17 +1,18 @@
 -- Reads and writes of the lists, by place.
 use mathlib.Core.Path.{_≡_, refl, sym, ap, _∙_, subst}
 use mathlib.Core.Logic.{_⊎_, inl, inr, ⊎-elim, _≢_}
-use mathlib.Core.Bool.{Bool, true, false, cond}
+use mathlib.Core.Bool.{Bool, true, false}
 use mathlib.Core.List.{List, [], _∷_, map}
 use Prim.Native.Nat.{ℕ, zero, suc, _≤_, _<_}
 use native.Mathlib.Nat.{le-of-suc-le-suc, not-suc-le-zero}
 use native.Mathlib.Omega.{arith}
-use lib.ListN.{length, set, length-set}
+use lib.ListN.{length, set}
 use Rattle.std.proofs.shelf.Tests.{cases-lt, cases-eq}
 use Rattle.protocol.specs.declared.Cell.{Cell}
-use Rattle.protocol.specs.Machine.{Content, empty, holds, upd, Act, rest, mark, unmark, put, slots-after, marks-after}
-use Rattle.protocol.specs.Register.{content, content-at, marked-at, slots, marks, alter, alter-place, with-mark, with-content, cells-after, nth, blank}
-use Rattle.protocol.proofs.Basics.{upd-at, upd-other}
+use Rattle.protocol.specs.Cells.{empty, holds, Act, Rest, Mark, Unmark, Write, updated, nth, content-at, marked-at, contents, marks, with-mark, with-key, alter, alter-place, cells-after}
+use Rattle.protocol.specs.Calls.{blank}
+use Rattle.protocol.proofs.Basics.{updated-at, updated-other}
+use Rattle.protocol.proofs.Flow.{contents-after, marks-after}
 
 module _ {K : Type 0} where
   pub length-alter : (f : Cell K → Cell K) (i : ℕ) (cs : List (Cell K)) → length (alter f i cs) ≡ length cs
@@ -20,13 +21,13 @@ module _ {K : Type 0} where
   length-alter f (suc i) (c ∷ cs) = ap suc (length-alter f i cs)
 
   pub length-after : (a : Act K) (cs : List (Cell K)) → length (cells-after a cs) ≡ length cs
-  length-after rest cs = refl
-  length-after (mark zero) cs = refl
-  length-after (mark (suc i)) cs = length-alter (with-mark true) i cs
-  length-after (unmark zero) cs = refl
-  length-after (unmark (suc i)) cs = length-alter (with-mark false) i cs
-  length-after (put zero c) cs = refl
-  length-after (put (suc i) c) cs = length-alter (with-content c) i cs
+  length-after Rest cs = refl
+  length-after (Mark zero) cs = refl
+  length-after (Mark (suc i)) cs = length-alter (with-mark true) i cs
+  length-after (Unmark zero) cs = refl
+  length-after (Unmark (suc i)) cs = length-alter (with-mark false) i cs
+  length-after (Write zero c) cs = refl
+  length-after (Write (suc i) c) cs = length-alter (with-key c) i cs
 
   pub alter-past : (f : Cell K → Cell K) (i : ℕ) (cs : List (Cell K)) → length cs ≤ i → alter f i cs ≡ cs
   alter-past f i [] h = refl
@@ -57,22 +58,14 @@ module _ {K : Type 0} where
   marked-other f (suc i) (c ∷ cs) zero n = refl
   marked-other f (suc i) (c ∷ cs) (suc j) n = marked-other f i cs j (λ e. n (ap suc e))
 
-  content-with : (x : Content K) (c : Cell K) → content (with-content x c) ≡ x
-  content-with empty c = refl
-  content-with (holds k) c = refl
-
-  marked-with : (x : Content K) (c : Cell K) → with-content x c .marked ≡ c .marked
-  marked-with empty c = refl
-  marked-with (holds k) c = refl
-
-  content-put : (x : Content K) (i : ℕ) (cs : List (Cell K)) → i < length cs → content-at (alter (with-content x) i cs) i ≡ x
+  content-put : (x : K) (i : ℕ) (cs : List (Cell K)) → i < length cs → content-at (alter (with-key x) i cs) i ≡ holds x
   content-put x i [] h = absurd (not-suc-le-zero h)
-  content-put x zero (c ∷ cs) h = content-with x c
+  content-put x zero (c ∷ cs) h = refl
   content-put x (suc i) (c ∷ cs) h = content-put x i cs (le-of-suc-le-suc h)
 
-  marked-put : (x : Content K) (i : ℕ) (cs : List (Cell K)) (j : ℕ) → marked-at (alter (with-content x) i cs) j ≡ marked-at cs j
+  marked-put : (x : K) (i : ℕ) (cs : List (Cell K)) (j : ℕ) → marked-at (alter (with-key x) i cs) j ≡ marked-at cs j
   marked-put x i [] j = refl
-  marked-put x zero (c ∷ cs) zero = marked-with x c
+  marked-put x zero (c ∷ cs) zero = refl
   marked-put x zero (c ∷ cs) (suc j) = refl
   marked-put x (suc i) (c ∷ cs) zero = refl
   marked-put x (suc i) (c ∷ cs) (suc j) = marked-put x i cs j
@@ -89,62 +82,67 @@ module _ {K : Type 0} where
   marked-mark b zero (c ∷ cs) h = refl
   marked-mark b (suc i) (c ∷ cs) h = marked-mark b i cs (le-of-suc-le-suc h)
 
-  pub slots-past : (cs : List (Cell K)) (p : ℕ) → length cs < p → slots cs p ≡ empty
-  slots-past cs zero h = refl
-  slots-past cs (suc i) h = content-past cs i (le-of-suc-le-suc h)
+  pub contents-past : (cs : List (Cell K)) (p : ℕ) → length cs < p → contents cs p ≡ empty
+  contents-past cs zero h = refl
+  contents-past cs (suc i) h = content-past cs i (le-of-suc-le-suc h)
 
   pub marks-past : (cs : List (Cell K)) (p : ℕ) → length cs < p → marks cs p ≡ false
   marks-past cs zero h = refl
   marks-past cs (suc i) h = marked-past cs i (le-of-suc-le-suc h)
 
-  slots-mark : (b : Bool) (p : ℕ) (cs : List (Cell K)) (q : ℕ) → slots (alter-place (with-mark b) p cs) q ≡ slots cs q
-  slots-mark b zero cs q = refl
-  slots-mark b (suc i) cs zero = refl
-  slots-mark b (suc i) cs (suc j) = content-mark b i cs j
+  pub marks-elsewhere : (f : Cell K → Cell K) (p : ℕ) (cs : List (Cell K)) (q : ℕ) → p ≢ q → marks (alter-place f p cs) q ≡ marks cs q
+  marks-elsewhere f zero cs q n = refl
+  marks-elsewhere f (suc i) cs zero n = refl
+  marks-elsewhere f (suc i) cs (suc j) n = marked-other f i cs j (λ e. n (ap suc e))
 
-  marks-put : (x : Content K) (p : ℕ) (cs : List (Cell K)) (q : ℕ) → marks (alter-place (with-content x) p cs) q ≡ marks cs q
+  pub contents-mark : (b : Bool) (p : ℕ) (cs : List (Cell K)) (q : ℕ) → contents (alter-place (with-mark b) p cs) q ≡ contents cs q
+  contents-mark b zero cs q = refl
+  contents-mark b (suc i) cs zero = refl
+  contents-mark b (suc i) cs (suc j) = content-mark b i cs j
+
+  marks-put : (x : K) (p : ℕ) (cs : List (Cell K)) (q : ℕ) → marks (alter-place (with-key x) p cs) q ≡ marks cs q
   marks-put x zero cs q = refl
   marks-put x (suc i) cs zero = refl
   marks-put x (suc i) cs (suc j) = marked-put x i cs j
 
   -- a write off the cells does nothing; e says that it would have left an edge as it was
-  slots-put : (x : Content K) (p : ℕ) (cs : List (Cell K)) → ((q : ℕ) → (q ≡ 0) ⊎ (length cs < q) → upd (slots cs) p x q ≡ empty) → (q : ℕ) → slots (alter-place (with-content x) p cs) q ≡ upd (slots cs) p x q
-  slots-put x zero cs e zero = sym (e zero (inl refl))
-  slots-put x zero cs e (suc j) = sym (upd-other (slots cs) zero (suc j) x (omega arith))
-  slots-put x (suc i) cs e zero = sym (upd-other (slots cs) (suc i) zero x (omega arith))
-  slots-put x (suc i) cs e (suc j) =
+  contents-put : (x : K) (p : ℕ) (cs : List (Cell K)) → ((q : ℕ) → (q ≡ 0) ⊎ (length cs < q) → updated (contents cs) p (holds x) q ≡ empty) → (q : ℕ) → contents (alter-place (with-key x) p cs) q ≡ updated (contents cs) p (holds x) q
+  contents-put x zero cs e zero = sym (e zero (inl refl))
+  contents-put x zero cs e (suc j) = sym (updated-other (contents cs) zero (suc j) (holds x) (omega arith))
+  contents-put x (suc i) cs e zero = sym (updated-other (contents cs) (suc i) zero (holds x) (omega arith))
+  contents-put x (suc i) cs e (suc j) =
       ⊎-elim
         (λ (z : i ≡ j). ⊎-elim
-          (λ (lt : i < length cs). ap (content-at (alter (with-content x) i cs)) (sym z) ∙ content-put x i cs lt ∙ sym (upd-at (slots cs) (suc i) (suc j) x (ap suc z)))
-          (λ le. ap (λ y. content-at y j) (alter-past (with-content x) i cs le) ∙ content-past cs j (omega arith) ∙ sym (e (suc j) (inr (omega arith))))
+          (λ (lt : i < length cs). ap (content-at (alter (with-key x) i cs)) (sym z) ∙ content-put x i cs lt ∙ sym (updated-at (contents cs) (suc i) (suc j) (holds x) (ap suc z)))
+          (λ le. ap (λ y. content-at y j) (alter-past (with-key x) i cs le) ∙ content-past cs j (omega arith) ∙ sym (e (suc j) (inr (omega arith))))
           (cases-lt i (length cs)))
-        (λ n. content-other (with-content x) i cs j n ∙ sym (upd-other (slots cs) (suc i) (suc j) x (omega arith)))
+        (λ n. content-other (with-key x) i cs j n ∙ sym (updated-other (contents cs) (suc i) (suc j) (holds x) (omega arith)))
         (cases-eq i j)
 
-  marks-mark : (b : Bool) (p : ℕ) (cs : List (Cell K)) → ((q : ℕ) → (q ≡ 0) ⊎ (length cs < q) → upd (marks cs) p b q ≡ false) → (q : ℕ) → marks (alter-place (with-mark b) p cs) q ≡ upd (marks cs) p b q
+  marks-mark : (b : Bool) (p : ℕ) (cs : List (Cell K)) → ((q : ℕ) → (q ≡ 0) ⊎ (length cs < q) → updated (marks cs) p b q ≡ false) → (q : ℕ) → marks (alter-place (with-mark b) p cs) q ≡ updated (marks cs) p b q
   marks-mark b zero cs e zero = sym (e zero (inl refl))
-  marks-mark b zero cs e (suc j) = sym (upd-other (marks cs) zero (suc j) b (omega arith))
-  marks-mark b (suc i) cs e zero = sym (upd-other (marks cs) (suc i) zero b (omega arith))
+  marks-mark b zero cs e (suc j) = sym (updated-other (marks cs) zero (suc j) b (omega arith))
+  marks-mark b (suc i) cs e zero = sym (updated-other (marks cs) (suc i) zero b (omega arith))
   marks-mark b (suc i) cs e (suc j) =
       ⊎-elim
         (λ (z : i ≡ j). ⊎-elim
-          (λ (lt : i < length cs). ap (marked-at (alter (with-mark b) i cs)) (sym z) ∙ marked-mark b i cs lt ∙ sym (upd-at (marks cs) (suc i) (suc j) b (ap suc z)))
+          (λ (lt : i < length cs). ap (marked-at (alter (with-mark b) i cs)) (sym z) ∙ marked-mark b i cs lt ∙ sym (updated-at (marks cs) (suc i) (suc j) b (ap suc z)))
           (λ le. ap (λ y. marked-at y j) (alter-past (with-mark b) i cs le) ∙ marked-past cs j (omega arith) ∙ sym (e (suc j) (inr (omega arith))))
           (cases-lt i (length cs)))
-        (λ n. marked-other (with-mark b) i cs j n ∙ sym (upd-other (marks cs) (suc i) (suc j) b (omega arith)))
+        (λ n. marked-other (with-mark b) i cs j n ∙ sym (updated-other (marks cs) (suc i) (suc j) b (omega arith)))
         (cases-eq i j)
 
-  pub slots-act : (a : Act K) (cs : List (Cell K)) → ((q : ℕ) → (q ≡ 0) ⊎ (length cs < q) → slots-after a (slots cs) q ≡ empty) → (q : ℕ) → slots (cells-after a cs) q ≡ slots-after a (slots cs) q
-  slots-act rest cs e q = refl
-  slots-act (mark p) cs e q = slots-mark true p cs q
-  slots-act (unmark p) cs e q = slots-mark false p cs q
-  slots-act (put p x) cs e q = slots-put x p cs e q
+  pub contents-act : (a : Act K) (cs : List (Cell K)) → ((q : ℕ) → (q ≡ 0) ⊎ (length cs < q) → contents-after a (contents cs) q ≡ empty) → (q : ℕ) → contents (cells-after a cs) q ≡ contents-after a (contents cs) q
+  contents-act Rest cs e q = refl
+  contents-act (Mark p) cs e q = contents-mark true p cs q
+  contents-act (Unmark p) cs e q = contents-mark false p cs q
+  contents-act (Write p x) cs e q = contents-put x p cs e q
 
   pub marks-act : (a : Act K) (cs : List (Cell K)) → ((q : ℕ) → (q ≡ 0) ⊎ (length cs < q) → marks-after a (marks cs) q ≡ false) → (q : ℕ) → marks (cells-after a cs) q ≡ marks-after a (marks cs) q
-  marks-act rest cs e q = refl
-  marks-act (mark p) cs e q = marks-mark true p cs e q
-  marks-act (unmark p) cs e q = marks-mark false p cs e q
-  marks-act (put p x) cs e q = marks-put x p cs q
+  marks-act Rest cs e q = refl
+  marks-act (Mark p) cs e q = marks-mark true p cs e q
+  marks-act (Unmark p) cs e q = marks-mark false p cs e q
+  marks-act (Write p x) cs e q = marks-put x p cs q
 
   content-blank : (k : K) (cs : List (Cell K)) (i : ℕ) → content-at (map (blank k) cs) i ≡ empty
   content-blank k [] i = refl
@@ -156,9 +154,9 @@ module _ {K : Type 0} where
   marked-blank k (c ∷ cs) zero = refl
   marked-blank k (c ∷ cs) (suc i) = marked-blank k cs i
 
-  pub slots-blank : (k : K) (cs : List (Cell K)) (p : ℕ) → slots (map (blank k) cs) p ≡ empty
-  slots-blank k cs zero = refl
-  slots-blank k cs (suc i) = content-blank k cs i
+  pub contents-blank : (k : K) (cs : List (Cell K)) (p : ℕ) → contents (map (blank k) cs) p ≡ empty
+  contents-blank k cs zero = refl
+  contents-blank k cs (suc i) = content-blank k cs i
 
   pub marks-blank : (k : K) (cs : List (Cell K)) (p : ℕ) → marks (map (blank k) cs) p ≡ false
   marks-blank k cs zero = refl

@@ -1,172 +1,117 @@
--- An entry gets its answer once, at its effect.
-use mathlib.Core.Path.{_≡_, refl, sym, ap, _∙_, subst}
+-- An entry gets its answer once, at its effect, and its stage carries it from then on.
+use mathlib.Core.Path.{_≡_, refl, ap}
 use mathlib.Core.Logic.{_⊎_, inl, inr, ⊎-elim}
-use mathlib.Core.Bool.{Bool, true, false, cond}
-use mathlib.Core.List.{List, [], _∷_}
-use Prim.Native.Nat.{ℕ, zero, suc, _≤_, _<_, pred}
+use mathlib.Core.Bool.{Bool, true, false}
+use mathlib.Core.List.{List}
+use Prim.Native.Nat.{ℕ}
 use native.Mathlib.Omega.{arith}
-use lib.Dec.{leb}
-use Rattle.std.proofs.shelf.Tests.{both-ways}
-use Rattle.protocol.specs.Machine.{Kind, Content, occ, before, same, after, Versus, none, is, versus, Answer, Stage, idle, home, look, left, right, first, second, back, check, shift, unleft, unright, answered, Side, leftward, rightward, Effect, nothing, took, Move, move, cell, Walk, hit, over, on, walk-at, from-right, both-edges, home-known, at-home, at-look, at-left, at-right, at-first, give-up, at-second, walked, at-check, at-shift-left, at-shift-right, release, shift-from}
-use Rattle.protocol.specs.OneWorker.{table}
-use Rattle.protocol.specs.Stages.{told, latest, noted, settle, is-idle, busy, says, finish, accepted}
+use Rattle.protocol.specs.Cells.{Content, empty, holds, cell, is-occupied}
+use Rattle.protocol.specs.Stages.{Answer, Direction, Stage, Idle, Home, Look, Left, Right, FirstMark, SecondMark, GiveBack, Check, Shift, ReleaseLeft, ReleaseRight, Answered}
+use Rattle.protocol.specs.Step.{before, same, after, Walk, Here, Ended, Onward, Kind, Effect, nothing, took, Decision, Versus, none, is, is-after, walk-at, beside, copy-due, at-home, at-look, at-left, at-right, at-first, give-up, at-second, absent, at-check, copied, release, versus, at-shift, decide}
+use Rattle.protocol.specs.Turns.{noted, latest}
+
+abbrev pub given : Stage → Effect
+given Idle = nothing
+given Home = nothing
+given (Look p) = nothing
+given (Left p) = nothing
+given (Right l p) = nothing
+given (FirstMark l r) = nothing
+given (SecondMark l r) = nothing
+given (GiveBack g) = nothing
+given (Check l r p) = nothing
+given (Shift d l r g) = nothing
+given (ReleaseLeft l r a) = took a
+given (ReleaseRight r a) = took a
+given (Answered a) = took a
 
 -- no answer yet, or no effect; and the answer after the step is the effect's, if any
 abbrev Once : Effect → Effect → Effect → Type 0
 Once e old new = ((old ≡ nothing) ⊎ (e ≡ nothing)) × (latest e old ≡ new)
 
 module _ {K : Type 0} {N : ℕ} (κ : Kind K N) where
-  abbrev Keeps-answer : Stage → Move K → Type 0
-  Keeps-answer x m = Once (m .effect) (told x) (told (m .next))
+  abbrev Keeps-answer : Stage → Decision K → Type 0
+  Keeps-answer x m = Once (m .effect) (given x) (given (m .next))
 
-  home-k : (k : K) (b : Bool) (v : Versus) → Keeps-answer home (at-home (κ .ops) k b v)
-  home-k k true v = (inl refl, refl)
-  home-k k false none = (inl refl, refl)
-  home-k k false (is same) = (inl refl, refl)
-  home-k k false (is after) = (inl refl, refl)
-  home-k k false (is before) = (inl refl, refl)
+  -- at a stage without an answer the effect alone counts
+  home-once : (k : K) (h : ℕ) (b : Bool) (v : Versus) → Keeps-answer Home (at-home k h b v)
+  home-once k h true v = (inl refl, refl)
+  home-once k h false none = (inl refl, refl)
+  home-once k h false (is same) = (inl refl, refl)
+  home-once k h false (is after) = (inl refl, refl)
+  home-once k h false (is before) = (inl refl, refl)
 
-  look-k : (h p : ℕ) (w : Walk) → Keeps-answer (look p) (at-look (κ .ops) h w)
-  look-k h p hit = (inl refl, refl)
-  look-k h p over = (inl refl, refl)
-  look-k h p (on q) = (inl refl, refl)
+  look-once : (h p : ℕ) (w : Walk) → Keeps-answer (Look p) (at-look h w)
+  look-once h p Here = (inl refl, refl)
+  look-once h p Ended = (inl refl, refl)
+  look-once h p (Onward q) = (inl refl, refl)
 
-  left-k : (h p : ℕ) (b o : Bool) → Keeps-answer (left p) (at-left (κ .ops) h p b o)
-  left-k h p true o = (inl refl, refl)
-  left-k h p false true = (inl refl, refl)
-  left-k h p false false = (inl refl, refl)
+  left-once : (h p : ℕ) (b o : Bool) → Keeps-answer (Left p) (at-left h p b o)
+  left-once h p true o = (inl refl, refl)
+  left-once h p false true = (inl refl, refl)
+  left-once h p false false = (inl refl, refl)
 
-  right-k : (l p : ℕ) (b o : Bool) → Keeps-answer (right l p) (at-right (κ .ops) l p b o)
-  right-k l p true o = (inl refl, refl)
-  right-k l p false true = (inl refl, refl)
-  right-k l p false false = (inl refl, refl)
+  right-once : (l p : ℕ) (b o : Bool) → Keeps-answer (Right l p) (at-right l p b o)
+  right-once l p true o = (inl refl, refl)
+  right-once l p false true = (inl refl, refl)
+  right-once l p false false = (inl refl, refl)
 
-  first-k : (l r : ℕ) (c b o : Bool) → Keeps-answer (first l r) (at-first (κ .ops) l r c b o)
-  first-k l r false b o = (inl refl, refl)
-  first-k l r true true o = (inl refl, refl)
-  first-k l r true false true = (inl refl, refl)
-  first-k l r true false false = (inl refl, refl)
+  first-once : (l r : ℕ) (c b o : Bool) → Keeps-answer (FirstMark l r) (at-first l r c b o)
+  first-once l r false b o = (inl refl, refl)
+  first-once l r true true o = (inl refl, refl)
+  first-once l r true false true = (inl refl, refl)
+  first-once l r true false false = (inl refl, refl)
 
-  give-k : (l r : ℕ) (c : Bool) → Keeps-answer (second l r) (give-up (κ .ops) l c)
-  give-k l r true = (inl refl, refl)
-  give-k l r false = (inl refl, refl)
+  give-once : (l r : ℕ) (c : Bool) → Keeps-answer (SecondMark l r) (give-up l c)
+  give-once l r true = (inl refl, refl)
+  give-once l r false = (inl refl, refl)
 
-  second-k : (h l r : ℕ) (c b o : Bool) → Keeps-answer (second l r) (at-second (κ .ops) h l r c b o)
-  second-k h l r false b o = (inl refl, refl)
-  second-k h l r true true o = give-k l r (cell N l)
-  second-k h l r true false true = give-k l r (cell N l)
-  second-k h l r true false false = (inl refl, refl)
+  second-once : (h l r : ℕ) (a c b o : Bool) → Keeps-answer (SecondMark l r) (at-second h l r a c b o)
+  second-once h l r a false b o = (inl refl, refl)
+  second-once h l r a true true o = give-once l r a
+  second-once h l r a true false true = give-once l r a
+  second-once h l r a true false false = (inl refl, refl)
 
-  walked-k : (l r p : ℕ) (b d : Bool) → Keeps-answer (check l r p) (walked (κ .ops) l r b d)
-  walked-k l r p true d = (inl refl, refl)
-  walked-k l r p false true = (inl refl, refl)
-  walked-k l r p false false = (inl refl, refl)
+  absent-once : (l r p : ℕ) (x y b : Bool) → Keeps-answer (Check l r p) (absent l r x y b)
+  absent-once l r p false false b = (inl refl, refl)
+  absent-once l r p false true b = (inl refl, refl)
+  absent-once l r p true false b = (inl refl, refl)
+  absent-once l r p true true true = (inl refl, refl)
+  absent-once l r p true true false = (inl refl, refl)
 
-  check-k : (l r p : ℕ) (v : Versus) (w : Walk) → Keeps-answer (check l r p) (at-check (κ .ops) l r v w)
-  check-k l r p v hit = (inl refl, refl)
-  check-k l r p v over = walked-k l r p (both-edges (κ .ops) l r) (from-right (κ .ops) l r v)
-  check-k l r p v (on q) = (inl refl, refl)
+  check-once : (l r p : ℕ) (x y b : Bool) (w : Walk) → Keeps-answer (Check l r p) (at-check l r x y b w)
+  check-once l r p x y b Here = (inl refl, refl)
+  check-once l r p x y b Ended = absent-once l r p x y b
+  check-once l r p x y b (Onward q) = (inl refl, refl)
 
-  shift-left-k : (k : K) (l r g : ℕ) (c : Content K) (v : Versus) → Keeps-answer (shift leftward l r g) (at-shift-left (κ .ops) k l r g c v)
-  shift-left-k k l r g c none = (inl refl, refl)
-  shift-left-k k l r g c (is before) = (inl refl, refl)
-  shift-left-k k l r g c (is same) = (inl refl, refl)
-  shift-left-k k l r g c (is after) = (inl refl, refl)
+  copied-once : (k : K) (d : Direction) (l r g : ℕ) (x : K) (b : Bool) → Keeps-answer (Shift d l r g) (copied k d l r g x b)
+  copied-once k d l r g x true = (inl refl, refl)
+  copied-once k d l r g x false = (inl refl, refl)
 
-  shift-right-k : (k : K) (l r g : ℕ) (c : Content K) (v : Versus) → Keeps-answer (shift rightward l r g) (at-shift-right (κ .ops) k l r g c v)
-  shift-right-k k l r g c none = (inl refl, refl)
-  shift-right-k k l r g c (is before) = (inl refl, refl)
-  shift-right-k k l r g c (is same) = (inl refl, refl)
-  shift-right-k k l r g c (is after) = (inl refl, refl)
+  release-once : (x y : Stage) → given x ≡ given y → (p : ℕ) (c : Bool) → Keeps-answer x (release p c y)
+  release-once x y e p true = (inr refl, e)
+  release-once x y e p false = (inr refl, e)
 
-  release-l : (l r : ℕ) (a : Answer) (c : Bool) → Keeps-answer (unleft l r a) (release (κ .ops) l c (unright r a))
-  release-l l r a true = (inr refl, refl)
-  release-l l r a false = (inr refl, refl)
+  shift-once : (k : K) (d : Direction) (l r g : ℕ) (c : Content K) → Keeps-answer (Shift d l r g) (at-shift κ k d l r g c)
+  shift-once k d l r g empty = (inl refl, refl)
+  shift-once k d l r g (holds x) = copied-once k d l r g x (copy-due d (κ .order x k))
 
-  release-r : (r : ℕ) (a : Answer) (c : Bool) → Keeps-answer (unright r a) (release (κ .ops) r c (answered a))
-  release-r r a true = (inr refl, refl)
-  release-r r a false = (inr refl, refl)
-
-  pub once : (k : K) (x : Stage) (T : ℕ → Content K) (M : ℕ → Bool) → Keeps-answer x (move (κ .ops) k x T M)
-  once k idle T M = (inl refl, refl)
-  once k home T M = home-k k (M (κ .ops .place k)) (versus (κ .ops) k (T (κ .ops .place k)))
-  once k (look p) T M = look-k (κ .ops .place k) p (walk-at (κ .ops) (κ .ops .place k) p (versus (κ .ops) k (T p)))
-  once k (left p) T M = left-k (κ .ops .place k) p (M p) (occ (T p))
-  once k (right l p) T M = right-k l p (M p) (occ (T p))
-  once k (first l r) T M = first-k l r (cell N l) (M l) (occ (T l))
-  once k (second l r) T M = second-k (κ .ops .place k) l r (cell N r) (M r) (occ (T r))
-  once k (back l) T M = (inl refl, refl)
-  once k (check l r p) T M = check-k l r p (versus (κ .ops) k (T (κ .ops .place k))) (walk-at (κ .ops) (κ .ops .place k) p (versus (κ .ops) k (T p)))
-  once k (shift leftward l r g) T M = shift-left-k k l r g (T (pred g)) (versus (κ .ops) k (T (pred g)))
-  once k (shift rightward l r g) T M = shift-right-k k l r g (T (suc g)) (versus (κ .ops) k (T (suc g)))
-  once k (unleft l r a) T M = release-l l r a (cell N l)
-  once k (unright r a) T M = release-r r a (cell N r)
-  once k (answered a) T M = (inr refl, refl)
+  pub once : (k : K) (x : Stage) (T : ℕ → Content K) (M : ℕ → Bool) → Keeps-answer x (decide κ k x T M)
+  once k Idle T M = (inl refl, refl)
+  once k Home T M = home-once k (κ .place k) (M (κ .place k)) (versus κ k (T (κ .place k)))
+  once k (Look p) T M = look-once (κ .place k) p (walk-at (κ .place k) p (versus κ k (T p)))
+  once k (Left p) T M = left-once (κ .place k) p (M p) (is-occupied (T p))
+  once k (Right l p) T M = right-once l p (M p) (is-occupied (T p))
+  once k (FirstMark l r) T M = first-once l r (cell N l) (M l) (is-occupied (T l))
+  once k (SecondMark l r) T M = second-once (κ .place k) l r (cell N l) (cell N r) (M r) (is-occupied (T r))
+  once k (GiveBack g) T M = (inl refl, refl)
+  once k (Check l r p) T M = check-once l r p (cell N l) (cell N r) (is-after (versus κ k (T (κ .place k)))) (walk-at (κ .place k) p (versus κ k (T p)))
+  once k (Shift d l r g) T M = shift-once k d l r g (T (beside d g))
+  once k (ReleaseLeft l r a) T M = release-once (ReleaseLeft l r a) (ReleaseRight r a) refl l (cell N l)
+  once k (ReleaseRight r a) T M = release-once (ReleaseRight r a) (Answered a) refl r (cell N r)
+  once k (Answered a) T M = (inr refl, refl)
 
 pub noted-once : {K : Type 0} (k : K) (es : List (K × Answer)) (e old new : Effect) → Once e old new → noted k e (noted k old es) ≡ noted k new es
 noted-once k es nothing old new o = ap (λ x. noted k x es) (o .1)
 noted-once k es (took a) nothing new o = ap (λ x. noted k x es) (o .1)
 noted-once k es (took a) (took b) new o = ⊎-elim (λ e. let z : _≡_ {A = ℕ} 0 1 = cc in absurd (omega arith)) (λ e. let z : _≡_ {A = ℕ} 0 1 = cc in absurd (omega arith)) (o .0)
-
--- a withdrawn station that does not become idle keeps its stage
-pub settle-same : (b : Bool) (x : Stage) → is-idle (settle b x) ≡ false → settle b x ≡ x
-settle-same false x e = refl
-settle-same true idle e = absurd (both-ways true e refl)
-settle-same true home e = absurd (both-ways true e refl)
-settle-same true (look p) e = refl
-settle-same true (left p) e = refl
-settle-same true (right l p) e = refl
-settle-same true (first l r) e = refl
-settle-same true (second l r) e = refl
-settle-same true (back l) e = refl
-settle-same true (check l r p) e = refl
-settle-same true (shift d l r g) e = refl
-settle-same true (unleft l r a) e = refl
-settle-same true (unright r a) e = refl
-settle-same true (answered a) e = absurd (both-ways true e refl)
-
--- what the reply says of the entry
-pub finish-is : (x : Stage) (old : Bool) → old ≡ true → finish (says x) old ≡ busy x
-finish-is idle old e = refl
-finish-is home old e = e
-finish-is (look p) old e = e
-finish-is (left p) old e = e
-finish-is (right l p) old e = e
-finish-is (first l r) old e = e
-finish-is (second l r) old e = e
-finish-is (back l) old e = e
-finish-is (check l r p) old e = e
-finish-is (shift d l r g) old e = e
-finish-is (unleft l r a) old e = e
-finish-is (unright r a) old e = e
-finish-is (answered a) old e = refl
-
-pub not-busy-idle : (x : Stage) → busy x ≡ true → is-idle x ≡ false
-not-busy-idle idle e = sym e
-not-busy-idle home e = refl
-not-busy-idle (look p) e = refl
-not-busy-idle (left p) e = refl
-not-busy-idle (right l p) e = refl
-not-busy-idle (first l r) e = refl
-not-busy-idle (second l r) e = refl
-not-busy-idle (back l) e = refl
-not-busy-idle (check l r p) e = refl
-not-busy-idle (shift d l r g) e = refl
-not-busy-idle (unleft l r a) e = refl
-not-busy-idle (unright r a) e = refl
-not-busy-idle (answered a) e = refl
-
-pub says-accepted : (x : Stage) → accepted (says x) ≡ true
-says-accepted idle = refl
-says-accepted home = refl
-says-accepted (look p) = refl
-says-accepted (left p) = refl
-says-accepted (right l p) = refl
-says-accepted (first l r) = refl
-says-accepted (second l r) = refl
-says-accepted (back l) = refl
-says-accepted (check l r p) = refl
-says-accepted (shift d l r g) = refl
-says-accepted (unleft l r a) = refl
-says-accepted (unright r a) = refl
-says-accepted (answered a) = refl

@@ -1,28 +1,30 @@
 -- Tables in order and connected to their homes; one key more keeps both.
-use mathlib.Core.Path.{_≡_, refl, sym, ap, _∙_, subst}
-use mathlib.Core.Logic.{_⊎_, inl, inr, ⊎-elim, _≢_}
-use mathlib.Core.Bool.{Bool, true, false, cond}
+use mathlib.Core.Path.{_≡_, sym, ap, _∙_, subst}
+use mathlib.Core.Logic.{⊎-elim, _≢_}
+use mathlib.Core.Bool.{true}
 use Prim.Native.Nat.{ℕ, suc, _≤_, _<_}
 use native.Mathlib.Omega.{arith}
 use Rattle.std.proofs.shelf.Tests.{cases-lt, cases-eq}
-use Rattle.protocol.specs.Machine.{Kind, Rank, before, same, after, Content, empty, holds, occ, upd, Versus, none, is, versus}
-use Rattle.protocol.proofs.Basics.{upd-at, upd-other, not-both, holds-occ, cmp-turn, cmp-back, by-place}
+use Rattle.protocol.specs.Cells.{Content, empty, holds, is-occupied}
+use Rattle.protocol.specs.Step.{before}
+use Rattle.protocol.proofs.Lawful.{Lawful}
+use Rattle.protocol.proofs.Basics.{not-both, holds-occ}
 
-module _ {K : Type 0} {N : ℕ} (κ : Kind K N) where
+module _ {K : Type 0} {N : ℕ} (κ : Lawful K N) where
   pub record Sorted (S : ℕ → Content K) : Type 0 where
-    pub asc : (p q : ℕ) (x y : K) → p < q → S p ≡ holds x → S q ≡ holds y → κ .ops .cmp x y ≡ before
-    pub up : (p q : ℕ) (x : K) → S p ≡ holds x → p ≤ q → q ≤ κ .ops .place x → occ (S q) ≡ true
-    pub down : (p q : ℕ) (x : K) → S p ≡ holds x → κ .ops .place x ≤ q → q ≤ p → occ (S q) ≡ true
+    pub asc : (p q : ℕ) (x y : K) → p < q → S p ≡ holds x → S q ≡ holds y → κ .kind .order x y ≡ before
+    pub up : (p q : ℕ) (x : K) → S p ≡ holds x → p ≤ q → q ≤ κ .kind .place x → is-occupied (S q) ≡ true
+    pub down : (p q : ℕ) (x : K) → S p ≡ holds x → κ .kind .place x ≤ q → q ≤ p → is-occupied (S q) ≡ true
     pub low : S 0 ≡ empty
     pub high : (p : ℕ) → N < p → S p ≡ empty
 
   module _ {S : ℕ → Content K} (ok : Sorted S) where
     -- left of an empty place stand keys with homes left of it
-    pub home-left : (e q : ℕ) (x : K) → S e ≡ empty → q < e → S q ≡ holds x → κ .ops .place x < e
-    home-left e q x h lt s = ⊎-elim (λ a. a) (λ b. absurd (not-both h (ok .up q e x s (omega arith) b))) (cases-lt (κ .ops .place x) e)
+    pub home-left : (e q : ℕ) (x : K) → S e ≡ empty → q < e → S q ≡ holds x → κ .kind .place x < e
+    home-left e q x h lt s = ⊎-elim (λ a. a) (λ b. absurd (not-both h (ok .up q e x s (omega arith) b))) (cases-lt (κ .kind .place x) e)
 
-    pub home-right : (e q : ℕ) (x : K) → S e ≡ empty → e < q → S q ≡ holds x → e < κ .ops .place x
-    home-right e q x h lt s = ⊎-elim (λ a. a) (λ b. absurd (not-both h (ok .down q e x s b (omega arith)))) (cases-lt e (κ .ops .place x))
+    pub home-right : (e q : ℕ) (x : K) → S e ≡ empty → e < q → S q ≡ holds x → e < κ .kind .place x
+    home-right e q x h lt s = ⊎-elim (λ a. a) (λ b. absurd (not-both h (ok .down q e x s b (omega arith)))) (cases-lt e (κ .kind .place x))
 
     pub inside : (p : ℕ) (x : K) → S p ≡ holds x → (0 < p) × (p ≤ N)
     inside p x s = (⊎-elim (λ a. a) (λ b. absurd (not-both (ok .low) (holds-occ (subst (λ i. S i ≡ holds x) (let z : p ≡ 0 = omega arith in z) s)))) (cases-lt 0 p), ⊎-elim (λ a. absurd (not-both (ok .high p a) (holds-occ s))) (λ b. b) (cases-lt N p))
@@ -33,11 +35,11 @@ module _ {K : Type 0} {N : ℕ} (κ : Kind K N) where
     pub from : (p : ℕ) → p ≢ g → (q : ℕ) × R p q × (S′ p ≡ S q)
     pub mono : (p q i j : ℕ) → p < q → R p i → R q j → i < j
     pub near : (p i : ℕ) → R p i → (i ≤ suc p) × (p ≤ suc i)
-    pub grown : (q : ℕ) → occ (S q) ≡ true → occ (S′ q) ≡ true
-    pub below : (p : ℕ) (x : K) → p < g → S′ p ≡ holds x → κ .ops .cmp x k ≡ before
-    pub above : (p : ℕ) (x : K) → g < p → S′ p ≡ holds x → κ .ops .cmp k x ≡ before
-    pub rise : (q : ℕ) → g ≤ q → q ≤ κ .ops .place k → occ (S′ q) ≡ true
-    pub fall : (q : ℕ) → κ .ops .place k ≤ q → q ≤ g → occ (S′ q) ≡ true
+    pub grown : (q : ℕ) → is-occupied (S q) ≡ true → is-occupied (S′ q) ≡ true
+    pub below : (p : ℕ) (x : K) → p < g → S′ p ≡ holds x → κ .kind .order x k ≡ before
+    pub above : (p : ℕ) (x : K) → g < p → S′ p ≡ holds x → κ .kind .order k x ≡ before
+    pub rise : (q : ℕ) → g ≤ q → q ≤ κ .kind .place k → is-occupied (S′ q) ≡ true
+    pub fall : (q : ℕ) → κ .kind .place k ≤ q → q ≤ g → is-occupied (S′ q) ≡ true
     pub low : S′ 0 ≡ empty
     pub high : (p : ℕ) → N < p → S′ p ≡ empty
 
@@ -48,7 +50,7 @@ module _ {K : Type 0} {N : ℕ} (κ : Kind K N) where
     key-at : (p : ℕ) (x : K) → p ≡ g → S′ p ≡ holds x → x ≡ k
     key-at p x e s = holds-inj (subst (λ i. S′ i ≡ holds x) e s) (m .at-gap)
 
-    more-asc : (p q : ℕ) (x y : K) → p < q → S′ p ≡ holds x → S′ q ≡ holds y → κ .ops .cmp x y ≡ before
+    more-asc : (p q : ℕ) (x y : K) → p < q → S′ p ≡ holds x → S′ q ≡ holds y → κ .kind .order x y ≡ before
     more-asc p q x y lt a b =
         ⊎-elim (λ (e : p ≡ g). rw (key-at p x e a) (m .above q y (omega arith) b))
           (λ n. ⊎-elim (λ (e : q ≡ g). rw (key-at q y e b) (m .below p x (omega arith) a))
@@ -56,17 +58,17 @@ module _ {K : Type 0} {N : ℕ} (κ : Kind K N) where
             (cases-eq q g))
           (cases-eq p g)
 
-    more-up : (p q : ℕ) (x : K) → S′ p ≡ holds x → p ≤ q → q ≤ κ .ops .place x → occ (S′ q) ≡ true
+    more-up : (p q : ℕ) (x : K) → S′ p ≡ holds x → p ≤ q → q ≤ κ .kind .place x → is-occupied (S′ q) ≡ true
     more-up p q x a le to =
-        ⊎-elim (λ (e : p ≡ g). let f : κ .ops .place x ≡ κ .ops .place k = ap (κ .ops .place) (key-at p x e a) in m .rise q (omega arith) (omega arith))
+        ⊎-elim (λ (e : p ≡ g). let f : κ .kind .place x ≡ κ .kind .place k = ap (κ .kind .place) (key-at p x e a) in m .rise q (omega arith) (omega arith))
           (λ n. ⊎-elim (λ (e : p ≡ q). holds-occ (subst (λ i. S′ i ≡ holds x) e a))
             (λ n′. let i = m .from p n in let c = m .near p (i .0) (i .1) in m .grown q (ok .up (i .0) q x (sym (i .2) ∙ a) (omega arith) to))
             (cases-eq p q))
           (cases-eq p g)
 
-    more-down : (p q : ℕ) (x : K) → S′ p ≡ holds x → κ .ops .place x ≤ q → q ≤ p → occ (S′ q) ≡ true
+    more-down : (p q : ℕ) (x : K) → S′ p ≡ holds x → κ .kind .place x ≤ q → q ≤ p → is-occupied (S′ q) ≡ true
     more-down p q x a le to =
-        ⊎-elim (λ (e : p ≡ g). let f : κ .ops .place x ≡ κ .ops .place k = ap (κ .ops .place) (key-at p x e a) in m .fall q (omega arith) (omega arith))
+        ⊎-elim (λ (e : p ≡ g). let f : κ .kind .place x ≡ κ .kind .place k = ap (κ .kind .place) (key-at p x e a) in m .fall q (omega arith) (omega arith))
           (λ n. ⊎-elim (λ (e : p ≡ q). holds-occ (subst (λ i. S′ i ≡ holds x) e a))
             (λ n′. let i = m .from p n in let c = m .near p (i .0) (i .1) in m .grown q (ok .down (i .0) q x (sym (i .2) ∙ a) le (omega arith)))
             (cases-eq p q))

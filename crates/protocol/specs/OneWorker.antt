@@ -1,106 +1,111 @@
--- The method for one worker, on a table by positions.
+-- The method for one worker, on a table that has a key or none at each place. It is the measure of every run's answers.
 use mathlib.Core.Path.{_≡_}
 use mathlib.Core.Bool.{Bool, true, false, cond, _&&_, _||_}
 use mathlib.Core.List.{List, [], _∷_}
-use Prim.Native.Nat.{ℕ, zero, suc, _+_, _-_, _≤_, _<_, pred}
-use lib.Dec.{eqb, ltb, leb}
-use Rattle.protocol.specs.Machine.{Ops, Content, empty, holds, occ, Answer, found, inserted, full, Versus, none, is, before, same, after, upd, versus}
+use Prim.Native.Nat.{ℕ, zero, suc}
+use lib.Dec.{eqb, leb}
+use Rattle.protocol.specs.Cells.{Content, empty, holds, is-occupied, updated}
+use Rattle.protocol.specs.Stages.{Answer, Inserted, Found, Full}
+use Rattle.protocol.specs.Step.{Ordering, before, same, after, Kind}
 
-abbrev pub is-same : Versus → Bool
-is-same none = false
-is-same (is before) = false
-is-same (is same) = true
-is-same (is after) = false
+abbrev pub is-less : Ordering → Bool
+is-less before = true
+is-less same = false
+is-less after = false
 
-abbrev pub is-after : Versus → Bool
-is-after none = false
-is-after (is before) = false
-is-after (is same) = false
-is-after (is after) = true
+abbrev pub is-equal : Ordering → Bool
+is-equal before = false
+is-equal same = true
+is-equal after = false
 
-abbrev pub is-before : Versus → Bool
-is-before none = false
-is-before (is before) = true
-is-before (is same) = false
-is-before (is after) = false
+abbrev pub is-greater : Ordering → Bool
+is-greater before = false
+is-greater same = false
+is-greater after = true
 
 module _ {K : Type 0} where
-  -- are the cells 1 .. n all occupied?
+  -- are the cells at places 1 to n all occupied?
   unfoldable pub all-occupied : ℕ → (ℕ → Content K) → Bool
   all-occupied zero S = true
-  all-occupied (suc n) S = occ (S (suc n)) && all-occupied n S
+  all-occupied (suc n) S = is-occupied (S (suc n)) && all-occupied n S
 
-  -- the nearest empty position below p; the edge, 0, is empty
-  unfoldable pub empty-below : (ℕ → Content K) → ℕ → ℕ
-  empty-below S zero = zero
-  empty-below S (suc p) = cond (occ (S p)) (empty-below S p) p
+  -- the nearest empty place left of p; the edge, 0, is empty
+  unfoldable pub empty-left : (ℕ → Content K) → ℕ → ℕ
+  empty-left S zero = zero
+  empty-left S (suc p) = cond (is-occupied (S p)) (empty-left S p) p
 
-  -- the nearest empty position from p on, at most n further
-  unfoldable pub empty-from : (ℕ → Content K) → ℕ → ℕ → ℕ
-  empty-from S zero p = p
-  empty-from S (suc n) p = cond (occ (S p)) (empty-from S n (suc p)) p
+  -- the nearest empty place from p on, at most n further
+  unfoldable pub empty-right : (ℕ → Content K) → ℕ → ℕ → ℕ
+  empty-right S zero p = p
+  empty-right S (suc n) p = cond (is-occupied (S p)) (empty-right S n (suc p)) p
 
-module _ {K : Type 0} {N : ℕ} (κ : Ops K N) where
-  -- does one of the cells 1 .. n hold k?
+module _ {K : Type 0} {N : ℕ} (κ : Kind K N) where
+  -- does the place hold a key before k, k itself, or a key after k?
+  abbrev pub lower : K → Content K → Bool
+  lower k empty = false
+  lower k (holds x) = is-less (κ .order x k)
+
+  abbrev pub equal : K → Content K → Bool
+  equal k empty = false
+  equal k (holds x) = is-equal (κ .order x k)
+
+  abbrev pub higher : K → Content K → Bool
+  higher k empty = false
+  higher k (holds x) = is-greater (κ .order x k)
+
+  -- does one of the cells at places 1 to n hold k?
   unfoldable pub has : ℕ → (ℕ → Content K) → K → Bool
   has zero S k = false
-  has (suc n) S k = is-same (versus κ k (S (suc n))) || has n S k
+  has (suc n) S k = equal k (S (suc n)) || has n S k
 
+  -- from r: while the cell left of the gap holds a key after k, that key is copied into the gap and the gap moves there; then k is written
   unfoldable pub slide-left : (ℕ → Content K) → K → ℕ → ℕ → Content K
   slide-left S k zero = S
-  slide-left S k (suc g) = cond (is-after (versus κ k (S g))) (slide-left (upd S (suc g) (S g)) k g) (upd S (suc g) (holds k))
+  slide-left S k (suc g) = cond (higher k (S g)) (slide-left (updated S (suc g) (S g)) k g) (updated S (suc g) (holds k))
 
+  -- from l: the same rightwards, with keys before k; n bounds the number of copies
   unfoldable pub slide-right : ℕ → (ℕ → Content K) → K → ℕ → ℕ → Content K
-  slide-right zero S k g = upd S g (holds k)
-  slide-right (suc n) S k g = cond (is-before (versus κ k (S (suc g)))) (slide-right n (upd S g (S (suc g))) k (suc g)) (upd S g (holds k))
+  slide-right zero S k g = updated S g (holds k)
+  slide-right (suc n) S k g = cond (lower k (S (suc g))) (slide-right n (updated S g (S (suc g))) k (suc g)) (updated S g (holds k))
 
-  abbrev pub Result : Type 0
-  Result = (ℕ → Content K) × Answer
+  abbrev pub Outcome : Type 0
+  Outcome = (ℕ → Content K) × Answer
 
-  abbrev pub by-side : Bool → (ℕ → Content K) → K → ℕ → ℕ → Result
-  by-side true S k l r = (slide-left S k r, inserted)
-  by-side false S k l r = (slide-right N S k l, inserted)
+  -- the gap starts at r if r is a cell and either the key at home is after k or l is the edge; otherwise at l
+  abbrev pub starts-right : (ℕ → Content K) → K → ℕ → ℕ → Bool
+  starts-right S k l r = leb r N && (higher k (S (κ .place k)) || eqb l 0)
 
-  -- the gap starts at r if r is a cell and either the key at home is after k or l is the edge
-  abbrev pub starts-right : ℕ → ℕ → Versus → Bool
-  starts-right l r v = leb r N && (is-after v || eqb l 0)
+  abbrev pub from-side : Bool → (ℕ → Content K) → K → ℕ → ℕ → Outcome
+  from-side true S k l r = (slide-left S k r, Inserted)
+  from-side false S k l r = (slide-right N S k l, Inserted)
 
-  abbrev pub with-gap : (ℕ → Content K) → K → ℕ → ℕ → Result
-  with-gap S k l r = by-side (starts-right l r (versus κ k (S (κ .place k)))) S k l r
+  abbrev pub between : (ℕ → Content K) → K → ℕ → ℕ → Outcome
+  between S k l r = from-side (starts-right S k l r) S k l r
 
-  abbrev pub unless-full : Bool → (ℕ → Content K) → K → Result
-  unless-full true S k = (S, full)
-  unless-full false S k = with-gap S k (empty-below S (κ .place k)) (empty-from S N (κ .place k))
+  -- all cells occupied: FULL
+  abbrev pub unless-full : Bool → (ℕ → Content K) → K → Outcome
+  unless-full true S k = (S, Full)
+  unless-full false S k = between S k (empty-left S (κ .place k)) (empty-right S N (κ .place k))
 
-  abbrev pub unless-found : Bool → (ℕ → Content K) → K → Result
-  unless-found true S k = (S, found)
+  -- an occupied cell holds k: FOUND
+  abbrev pub unless-found : Bool → (ℕ → Content K) → K → Outcome
+  unless-found true S k = (S, Found)
   unless-found false S k = unless-full (all-occupied N S) S k
 
-  abbrev pub unless-home : Bool → (ℕ → Content K) → K → Result
-  unless-home false S k = (upd S (κ .place k) (holds k), inserted)
+  -- home is empty: k is written there, INSERTED
+  abbrev pub unless-home : Bool → (ℕ → Content K) → K → Outcome
+  unless-home false S k = (updated S (κ .place k) (holds k), Inserted)
   unless-home true S k = unless-found (has N S k) S k
 
-  unfoldable pub one-worker : (ℕ → Content K) → K → Result
-  one-worker S k = unless-home (occ (S (κ .place k))) S k
+  unfoldable pub one-worker : (ℕ → Content K) → K → Outcome
+  one-worker S k = unless-home (is-occupied (S (κ .place k))) S k
 
-  abbrev pub Entry : Type 0
-  Entry = K × Answer
-
-  -- the latest entry first
-  unfoldable pub table : List Entry → ℕ → Content K
+  -- what one worker leaves after these entries, the latest first, begun on empty cells
+  unfoldable pub table : List (K × Answer) → ℕ → Content K
   table [] = λ p. empty
   table (e ∷ es) = one-worker (table es) (e .0) .0
 
-  pub data Agrees : List Entry → Type 0 where
-    none-yet : Agrees []
-    one-more : {es : List Entry} → Agrees es → (k : K) (a : Answer) → one-worker (table es) k .1 ≡ a → Agrees ((k, a) ∷ es)
-
-  -- k was new at some entry of the list
-  pub data Was-new (k : K) : List Entry → Type 0 where
-    now : {es : List Entry} {a : Answer} → a ≡ inserted → Was-new k ((k, a) ∷ es)
-    earlier : {e : Entry} {es : List Entry} → Was-new k es → Was-new k (e ∷ es)
-
-  -- no key is new twice
-  unfoldable pub New-once : List Entry → Type 0
-  New-once [] = Unit {0}
-  New-once (e ∷ es) = New-once es × (e .1 ≡ inserted → Was-new (e .0) es → ⊥)
+  -- one worker answers each of these entries alike
+  unfoldable pub Alike : List (K × Answer) → Type 0
+  Alike [] = Unit {0}
+  Alike (e ∷ es) = Alike es × (one-worker (table es) (e .0) .1 ≡ e .1)

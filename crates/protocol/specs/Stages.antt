@@ -1,170 +1,113 @@
--- What a stage says of its station, the turns of a register and their replies.
-use mathlib.Core.Path.{_≡_}
-use mathlib.Core.Bool.{Bool, true, false, cond, not, _&&_, _||_}
-use mathlib.Core.List.{List, [], _∷_}
-use Prim.Native.Nat.{ℕ, zero, suc, _+_, _≤_, _<_}
-use lib.Dec.{eqb, ltb, leb}
-pub use Rattle.protocol.specs.declared.Reply.{Reply}
-pub use Rattle.protocol.specs.declared.Reply.the-variants.{Refused as refused, Slip as slip, GoesOn as goes-on, SaysAnswered as says-answered, SaysIdle as says-idle, Gone as gone, Gives as gives}
-use Rattle.protocol.specs.Machine.{Answer, found, inserted, full, Stage, idle, home, look, left, right, first, second, back, check, shift, unleft, unright, answered, Side, Effect, nothing, took, cell}
+-- What a stage says of its station.
+use mathlib.Core.Bool.{Bool, true, false, _&&_, _||_}
+use Prim.Native.Nat.{ℕ, suc, _+_}
+use lib.Dec.{ltb}
+pub use Rattle.protocol.specs.declared.Answer.{Answer}
+pub use Rattle.protocol.specs.declared.Answer.the-variants.{Inserted, Found, Full}
+pub use Rattle.protocol.specs.declared.Direction.{Direction}
+pub use Rattle.protocol.specs.declared.Direction.the-variants.{Leftward, Rightward}
+pub use Rattle.protocol.specs.declared.Stage.{Stage}
+pub use Rattle.protocol.specs.declared.Stage.the-variants.{Idle, Home, Look, Left, Right, FirstMark, SecondMark, GiveBack, Check, Shift, ReleaseLeft, ReleaseRight, Answered}
+use Rattle.protocol.specs.Cells.{cell}
 
-pub data Turn (K : Type 0) : Type 0 where
-  begin : ℕ → K → Turn K
-  step : ℕ → Turn K
-  collect : ℕ → ℕ → Turn K
-  withdraw : ℕ → ℕ → Turn K
-  whole : K → Turn K
+-- the four standings of a station
+pub data Standing : Type 0 where
+  resting : Standing
+  homing : Standing
+  under-way : Standing
+  done : Answer → Standing
+
+abbrev pub standing : Stage → Standing
+standing Idle = resting
+standing Home = homing
+standing (Look p) = under-way
+standing (Left p) = under-way
+standing (Right l p) = under-way
+standing (FirstMark l r) = under-way
+standing (SecondMark l r) = under-way
+standing (GiveBack c) = under-way
+standing (Check l r p) = under-way
+standing (Shift d l r g) = under-way
+standing (ReleaseLeft l r a) = under-way
+standing (ReleaseRight r a) = under-way
+standing (Answered a) = done a
+
+-- a station has a step to make unless it is idle or answered
+abbrev pub busy-by : Standing → Bool
+busy-by resting = false
+busy-by homing = true
+busy-by under-way = true
+busy-by (done a) = false
 
 abbrev pub busy : Stage → Bool
-busy idle = false
-busy home = true
-busy (look p) = true
-busy (left p) = true
-busy (right l p) = true
-busy (first l r) = true
-busy (second l r) = true
-busy (back l) = true
-busy (check l r p) = true
-busy (shift d l r g) = true
-busy (unleft l r a) = true
-busy (unright r a) = true
-busy (answered a) = false
+busy x = busy-by (standing x)
+
+abbrev pub idle-by : Standing → Bool
+idle-by resting = true
+idle-by homing = false
+idle-by under-way = false
+idle-by (done a) = false
 
 abbrev pub is-idle : Stage → Bool
-is-idle idle = true
-is-idle home = false
-is-idle (look p) = false
-is-idle (left p) = false
-is-idle (right l p) = false
-is-idle (first l r) = false
-is-idle (second l r) = false
-is-idle (back l) = false
-is-idle (check l r p) = false
-is-idle (shift d l r g) = false
-is-idle (unleft l r a) = false
-is-idle (unright r a) = false
-is-idle (answered a) = false
+is-idle x = idle-by (standing x)
 
--- a withdrawn station that would return to home or be answered becomes idle
-abbrev pub settle : Bool → Stage → Stage
-settle false st = st
-settle true idle = idle
-settle true home = idle
-settle true (look p) = look p
-settle true (left p) = left p
-settle true (right l p) = right l p
-settle true (first l r) = first l r
-settle true (second l r) = second l r
-settle true (back l) = back l
-settle true (check l r p) = check l r p
-settle true (shift d l r g) = shift d l r g
-settle true (unleft l r a) = unleft l r a
-settle true (unright r a) = unright r a
-settle true (answered a) = idle
+-- where a withdrawn station would return to home or be answered, it becomes idle
+abbrev pub settled-by : Bool → Standing → Stage → Stage
+settled-by false st x = x
+settled-by true resting x = Idle
+settled-by true homing x = Idle
+settled-by true under-way x = x
+settled-by true (done a) x = Idle
 
-abbrev pub says : Stage → Reply
-says idle = says-idle
-says home = goes-on
-says (look p) = goes-on
-says (left p) = goes-on
-says (right l p) = goes-on
-says (first l r) = goes-on
-says (second l r) = goes-on
-says (back l) = goes-on
-says (check l r p) = goes-on
-says (shift d l r g) = goes-on
-says (unleft l r a) = goes-on
-says (unright r a) = goes-on
-says (answered a) = says-answered
+abbrev pub settled : Bool → Stage → Stage
+settled withdrawn x = settled-by withdrawn (standing x) x
 
--- which positions a stage names
-abbrev pub names-below : ℕ → Stage → Bool
-names-below B idle = true
-names-below B home = true
-names-below B (look p) = ltb p B
-names-below B (left p) = ltb p B
-names-below B (right l p) = ltb l B && ltb p B
-names-below B (first l r) = ltb l B && ltb r B
-names-below B (second l r) = ltb l B && ltb r B
-names-below B (back l) = ltb l B
-names-below B (check l r p) = ltb l B && (ltb r B && ltb p B)
-names-below B (shift d l r g) = ltb l B && (ltb r B && ltb g B)
-names-below B (unleft l r a) = ltb l B && ltb r B
-names-below B (unright r a) = ltb r B
-names-below B (answered a) = true
+-- the boundaries that a stage has marked, where they are cells
+pub data Held : Type 0 where
+  none-held : Held
+  one-held : ℕ → Held
+  both-held : ℕ → ℕ → Held
 
--- does the stage hold a mark?
+abbrev pub held-by : Stage → Held
+held-by Idle = none-held
+held-by Home = none-held
+held-by (Look p) = none-held
+held-by (Left p) = none-held
+held-by (Right l p) = none-held
+held-by (FirstMark l r) = none-held
+held-by (SecondMark l r) = one-held l
+held-by (GiveBack c) = one-held (suc c)
+held-by (Check l r p) = both-held l r
+held-by (Shift d l r g) = both-held l r
+held-by (ReleaseLeft l r a) = both-held l r
+held-by (ReleaseRight r a) = one-held r
+held-by (Answered a) = none-held
+
+abbrev pub some-cell : ℕ → Held → Bool
+some-cell N none-held = false
+some-cell N (one-held p) = cell N p
+some-cell N (both-held l r) = cell N l || cell N r
+
+-- does the entry hold a mark?
 abbrev pub holds-mark : ℕ → Stage → Bool
-holds-mark N idle = false
-holds-mark N home = false
-holds-mark N (look p) = false
-holds-mark N (left p) = false
-holds-mark N (right l p) = false
-holds-mark N (first l r) = false
-holds-mark N (second l r) = cell N l
-holds-mark N (back l) = cell N l
-holds-mark N (check l r p) = cell N l || cell N r
-holds-mark N (shift d l r g) = cell N l || cell N r
-holds-mark N (unleft l r a) = cell N l || cell N r
-holds-mark N (unright r a) = cell N r
-holds-mark N (answered a) = false
+holds-mark N x = some-cell N (held-by x)
 
--- an entry holds a cell from its step that marks it to its step that unmarks it: was marked, is marked, held so far
-abbrev pub watch : Bool → Bool → Bool → Bool
-watch false true old = true
-watch true false old = false
-watch false false old = old
-watch true true old = old
+-- a place of N cells: an edge or a cell below N
+abbrev pub is-place : ℕ → ℕ → Bool
+is-place N p = ltb p (N + 2)
 
--- the answer that an entry of that stage has got
-abbrev pub told : Stage → Effect
-told idle = nothing
-told home = nothing
-told (look p) = nothing
-told (left p) = nothing
-told (right l p) = nothing
-told (first l r) = nothing
-told (second l r) = nothing
-told (back l) = nothing
-told (check l r p) = nothing
-told (shift d l r g) = nothing
-told (unleft l r a) = took a
-told (unright r a) = took a
-told (answered a) = took a
-
-abbrev pub noted : {K : Type 0} → K → Effect → List (K × Answer) → List (K × Answer)
-noted k nothing es = es
-noted k (took a) es = (k, a) ∷ es
-
--- the latest answer
-abbrev pub latest : Effect → Effect → Effect
-latest nothing old = old
-latest (took a) old = took a
-
-abbrev pub accepted : Reply → Bool
-accepted (refused n) = false
-accepted (slip n s) = true
-accepted goes-on = true
-accepted says-answered = true
-accepted says-idle = true
-accepted gone = true
-accepted (gives a) = true
-
--- an entry is unfinished until its step says ANSWERED or IDLE, or its withdrawal GONE
-abbrev pub finish : Reply → Bool → Bool
-finish (refused n) old = old
-finish (slip n s) old = true
-finish goes-on old = old
-finish says-answered old = false
-finish says-idle old = false
-finish gone old = false
-finish (gives a) old = old
-
-abbrev pub answer-of : Reply → Effect
-answer-of (refused n) = nothing
-answer-of (slip n s) = nothing
-answer-of goes-on = nothing
-answer-of says-answered = nothing
-answer-of says-idle = nothing
-answer-of gone = nothing
-answer-of (gives a) = took a
+-- does the stage name no cell but those below N? A boundary is a place, a gap is a cell.
+abbrev pub names-cells : ℕ → Stage → Bool
+names-cells N Idle = true
+names-cells N Home = true
+names-cells N (Look p) = is-place N p
+names-cells N (Left p) = is-place N p
+names-cells N (Right l p) = is-place N l && is-place N p
+names-cells N (FirstMark l r) = is-place N l && is-place N r
+names-cells N (SecondMark l r) = is-place N l && is-place N r
+names-cells N (GiveBack c) = ltb c N
+names-cells N (Check l r p) = is-place N l && (is-place N r && is-place N p)
+names-cells N (Shift d l r g) = is-place N l && (is-place N r && ltb g N)
+names-cells N (ReleaseLeft l r a) = is-place N l && is-place N r
+names-cells N (ReleaseRight r a) = is-place N r
+names-cells N (Answered a) = true

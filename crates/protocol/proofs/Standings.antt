@@ -1,0 +1,100 @@
+-- What a stage's standing says of the stage, and what a stage holds.
+use mathlib.Core.Path.{_≡_, refl, sym, ap}
+use mathlib.Core.Bool.{Bool, true, false, not, _&&_, _||_}
+use Prim.Native.Nat.{ℕ}
+use native.Mathlib.Omega.{arith}
+use lib.Dec.{eqb}
+use Rattle.std.proofs.shelf.Tests.{both-ways, and-parts}
+use Rattle.protocol.specs.Cells.{cell}
+use Rattle.protocol.specs.Stages.{Stage, Idle, Home, Look, Left, Right, FirstMark, SecondMark, GiveBack, Check, Shift, ReleaseLeft, ReleaseRight, Answered, Standing, resting, homing, under-way, done, standing, busy-by, busy, idle-by, is-idle, settled-by, settled, Held, none-held, one-held, both-held, held-by, some-cell}
+use Rattle.protocol.specs.Calls.{says-by, says}
+use Rattle.protocol.specs.Turns.{after-progress}
+
+abbrev pub Told : Stage → Standing → Type 0
+Told x resting = x ≡ Idle
+Told x homing = x ≡ Home
+Told x under-way = Unit {0}
+Told x (done a) = x ≡ Answered a
+
+pub stage-is : (x : Stage) → Told x (standing x)
+stage-is Idle = refl
+stage-is Home = refl
+stage-is (Look p) = tt
+stage-is (Left p) = tt
+stage-is (Right l p) = tt
+stage-is (FirstMark l r) = tt
+stage-is (SecondMark l r) = tt
+stage-is (GiveBack g) = tt
+stage-is (Check l r p) = tt
+stage-is (Shift d l r g) = tt
+stage-is (ReleaseLeft l r a) = tt
+stage-is (ReleaseRight r a) = tt
+stage-is (Answered a) = refl
+
+pub idle-is : (x : Stage) → not (is-idle x) ≡ false → x ≡ Idle
+idle-is x e = go (standing x) (stage-is x) e
+  where
+    go : (y : Standing) → Told x y → not (idle-by y) ≡ false → x ≡ Idle
+    go resting t e = t
+    go homing t e = absurd (both-ways true e refl)
+    go under-way t e = absurd (both-ways true e refl)
+    go (done a) t e = absurd (both-ways true e refl)
+
+-- a withdrawn station that does not become idle keeps its stage
+pub settled-same : (b : Bool) (x : Stage) → is-idle (settled b x) ≡ false → settled b x ≡ x
+settled-same false x e = refl
+settled-same true x e = go (standing x) e
+  where
+    go : (y : Standing) → is-idle (settled-by true y x) ≡ false → settled-by true y x ≡ x
+    go resting e = absurd (both-ways true e refl)
+    go homing e = absurd (both-ways true e refl)
+    go under-way e = refl
+    go (done a) e = absurd (both-ways true e refl)
+
+pub busy-not-idle : (x : Stage) → busy x ≡ true → is-idle x ≡ false
+busy-not-idle x e = go (standing x) e
+  where
+    go : (y : Standing) → busy-by y ≡ true → idle-by y ≡ false
+    go resting e = sym e
+    go homing e = refl
+    go under-way e = refl
+    go (done a) e = refl
+
+-- what a step says of an unfinished entry
+pub finish-is : (x : Stage) (old : Bool) → old ≡ true → after-progress (says x) old ≡ busy x
+finish-is x old e = go (standing x)
+  where
+    go : (y : Standing) → after-progress (says-by y) old ≡ busy-by y
+    go resting = refl
+    go homing = e
+    go under-way = e
+    go (done a) = refl
+
+-- the places at which a stage holds a mark
+abbrev pub held-at : ℕ → Held → ℕ → Bool
+held-at N none-held q = false
+held-at N (one-held p) q = eqb q p && cell N q
+held-at N (both-held l r) q = (eqb q l || eqb q r) && cell N q
+
+abbrev pub holder : ℕ → Stage → ℕ → Bool
+holder N x q = held-at N (held-by x) q
+
+pub holder-busy : (N : ℕ) (x : Stage) (p : ℕ) → holder N x p ≡ true → busy x ≡ true
+holder-busy N x p h = go (standing x) (stage-is x)
+  where
+    go : (y : Standing) → Told x y → busy-by y ≡ true
+    go resting t = absurd (both-ways (holder N x p) (ap (λ z. holder N z p) t) h)
+    go homing t = refl
+    go under-way t = refl
+    go (done a) t = absurd (both-ways (holder N x p) (ap (λ z. holder N z p) t) h)
+
+pub holder-cell : (N : ℕ) (h : Held) (q : ℕ) → held-at N h q ≡ true → cell N q ≡ true
+holder-cell N none-held q e = absurd (both-ways false refl e)
+holder-cell N (one-held p) q e = and-parts (eqb q p) (cell N q) e .1
+holder-cell N (both-held l r) q e = and-parts (eqb q l || eqb q r) (cell N q) e .1
+
+-- a stage that holds no mark holds none anywhere
+pub no-holder : (N : ℕ) (h : Held) → some-cell N h ≡ false → (p : ℕ) → false ≡ held-at N h p
+no-holder N none-held e p = refl
+no-holder N (one-held l) e p = grind arith
+no-holder N (both-held l r) e p = grind arith
