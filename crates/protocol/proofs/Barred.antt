@@ -11,7 +11,7 @@ use Rattle.protocol.specs.declared.Cell.{Cell}
 use Rattle.protocol.specs.Cells.{Content, empty, holds, cell, is-occupied, contents, marks, with-mark, alter-place, cells-after}
 use Rattle.protocol.specs.Stages.{Direction, Stage, Idle, Home, Look, Left, Right, FirstMark, SecondMark, GiveBack, Check, Shift, ReleaseLeft, ReleaseRight, Answered, Standing, resting, homing, under-way, done, standing}
 use Rattle.protocol.specs.Step.{before, same, after, Walk, Here, Ended, Onward, Decision, Versus, none, is, is-after, walk-at, beside, copy-due, at-home, at-look, at-left, at-right, at-first, at-second, absent, at-check, copied, release, versus, at-shift}
-use Rattle.protocol.specs.Calls.{Ok, Err, Size, Barred, World, bad-size, ends-by, whole-answer, enough, decision, alone, entered-by, entered}
+use Rattle.protocol.specs.Calls.{Ok, Err, WrongSize, Barred, World, bad-size, ends-by, whole-answer, enough, decision, alone, entered-by, entered}
 use Rattle.protocol.specs.Safety.{Ended-stage}
 use Rattle.protocol.proofs.Lawful.{Lawful}
 use Rattle.protocol.proofs.Lists.{marks-elsewhere, contents-mark}
@@ -139,7 +139,7 @@ module _ {K : Type 0} {N : ℕ} (κ : Lawful K N) (w : World K) (size : length (
 
   pub barred-unchanged : entered (κ .kind) w k .1 ≡ Err Barred → entered (κ .kind) w k .0 ≡ w
   unfolding entered
-  barred-unchanged = by-check (λ o. o .1 ≡ Err Barred → o .0 ≡ w) (bad-size N) Size w _ (λ e. refl) (λ _ e. by-end whole-over e)
+  barred-unchanged = by-check (λ o. o .1 ≡ Err Barred → o .0 ≡ w) (bad-size N) WrongSize w _ (λ e. refl) (λ _ e. by-end whole-over e)
     where
       o : List (Cell K) × Stage
       o = alone (κ .kind) (enough N) k (w .cells) Home

@@ -14,7 +14,7 @@ use Rattle.protocol.specs.Refusals.{numberOf}
 use Rattle.protocol.specs.Cells.{Content, empty, holds, cell, updated, nth, contents, marks, cells-after}
 use Rattle.protocol.specs.Stages.{Stage, Idle, Answered, Standing, resting, homing, under-way, done, standing, busy, is-idle, settled, held-by, holds-mark, names-cells}
 use Rattle.protocol.specs.Step.{Effect, nothing, Decision, decide}
-use Rattle.protocol.specs.Calls.{Ok, Err, Refusal, Size, OtherRegister, NoStation, NotIdle, NoEntry, NoCell, Progress, World, bad-size, bad-count, Out, refused-if, with-record, at-station, seated, fresh, idled, leaving, collected-at, withdrawn-at, begun, collected, withdrawing, decision, stepped-at, stepping}
+use Rattle.protocol.specs.Calls.{Ok, Err, Refusal, WrongSize, OtherRegister, NoStation, NotIdle, NoEntry, NoCell, Progress, World, bad-size, bad-count, Out, refused-if, with-record, at-station, seated, fresh, idled, leaving, collected-at, withdrawn-at, begun, collected, withdrawing, decision, stepped-at, stepping}
 use Rattle.protocol.specs.Turns.{Turn, begin, step, collect, withdraw, Reply, Log, latest, watched, log-at, logged-over}
 use Rattle.protocol.proofs.Lawful.{Lawful}
 use Rattle.protocol.proofs.Basics.{updated-same, updated-at, updated-other, updated-all}
@@ -201,14 +201,14 @@ module _ {K : Type 0} {N : ℕ} (κ : Lawful K N) where
         pub begun-kept : (k : K) → Goal (begin s k) (begun N w s k)
         unfolding begun Goal
         begun-kept k =
-            by-check (Goal (begin s k)) (bad-size N) Size w _ f (λ _.
+            by-check (Goal (begin s k)) (bad-size N) WrongSize w _ f (λ _.
               by-station (Goal (begin s k)) w s _ f (λ b u e.
                 by-check (Goal (begin s k)) (not (is-idle (u .stage))) NotIdle w _ f (λ h. begin-kept b u e k h)))
 
         pub stepping-kept : Goal (step s) (stepping (κ .kind) w s)
         unfolding stepping
         stepping-kept =
-            by-check (Goal (step s)) (bad-size N) Size w _ (step-refused Size) (λ _.
+            by-check (Goal (step s)) (bad-size N) WrongSize w _ (step-refused WrongSize) (λ _.
               by-station (Goal (step s)) w s _ (step-refused NoStation) (λ b u e.
                 by-check (Goal (step s)) (not (busy (u .stage))) NoEntry w _ (step-refused NoEntry) (λ h.
                   by-check (Goal (step s)) (not (names-cells N (u .stage))) NoCell w _ (step-refused NoCell) (λ _. step-kept b u e (not-false (busy (u .stage)) h)))))
@@ -216,7 +216,7 @@ module _ {K : Type 0} {N : ℕ} (κ : Lawful K N) where
         pub collected-kept : (n : ℕ) → Goal (collect n s) (collected N w n s)
         unfolding collected Goal
         collected-kept n =
-            by-check (Goal (collect n s)) (bad-size N) Size w _ f (λ _.
+            by-check (Goal (collect n s)) (bad-size N) WrongSize w _ f (λ _.
               by-check (Goal (collect n s)) (not (eqb n (w .number))) OtherRegister w _ f (λ _.
                 by-station (Goal (collect n s)) w s _ f (λ b u e.
                   by-check (Goal (collect n s)) (u .withdrawn) NoEntry w _ f (λ _. collect-kept b u e n (standing (u .stage)) (stage-is (u .stage))))))
@@ -224,7 +224,7 @@ module _ {K : Type 0} {N : ℕ} (κ : Lawful K N) where
         pub withdrawing-kept : (n : ℕ) → Goal (withdraw n s) (withdrawing N w n s)
         unfolding withdrawing Goal
         withdrawing-kept n =
-            by-check (Goal (withdraw n s)) (bad-size N) Size w _ f (λ _.
+            by-check (Goal (withdraw n s)) (bad-size N) WrongSize w _ f (λ _.
               by-check (Goal (withdraw n s)) (not (eqb n (w .number))) OtherRegister w _ f (λ _.
                 by-station (Goal (withdraw n s)) w s _ f (λ b u e.
                   by-check (Goal (withdraw n s)) (is-idle (u .stage) || u .withdrawn) NoEntry w _ f (λ _. withdraw-kept b u e n (holds-mark N (u .stage)) refl))))
@@ -233,7 +233,7 @@ module _ {K : Type 0} {N : ℕ} (κ : Lawful K N) where
         pub never-stray : stepping (κ .kind) w s .1 ≡ Err NoCell → ⊥
         unfolding stepping refused-if
         never-stray =
-            by-check Other (bad-size N) Size w _ (by-number Size (omega arith)) (λ _.
+            by-check Other (bad-size N) WrongSize w _ (by-number WrongSize (omega arith)) (λ _.
               by-station Other w s _ (by-number NoStation (omega arith)) (λ b u e.
                 by-check Other (not (busy (u .stage))) NoEntry w _ (by-number NoEntry (omega arith)) (λ _.
                   subst (λ x. Other (refused-if (not x) NoCell w (stepped-at (κ .kind) w s u (decision (κ .kind) (w .cells) (u .key) (u .stage))))) (sym (named-is b u e)) (λ z. let y : _≡_ {A = ℕ} 0 1 = cc in omega arith))))

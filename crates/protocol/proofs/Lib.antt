@@ -18,3 +18,4 @@ pub mod Kept
 pub mod Whole
 pub mod Barred
 pub mod Theorem
+pub mod Examples

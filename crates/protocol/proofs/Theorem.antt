@@ -15,10 +15,11 @@ use Rattle.protocol.specs.declared.Station.{Station}
 use Rattle.protocol.specs.Cells.{Content, empty, holds, nth, contents, marks}
 use Rattle.protocol.specs.Stages.{Answer, Idle, Standing, resting, homing, under-way, done, standing, busy, is-idle, names-cells}
 use Rattle.protocol.specs.Step.{Ordering, before, kind-over, took}
-use Rattle.protocol.specs.Calls.{Ok, Err, Refusal, Size, OtherRegister, NoEntry, NoCell, Barred, World, bad-size, bad-count, Out, refused-if, idled, blank, idle-records, opened-if, collected-at, begun, collected, withdrawing, stepping, entered}
+use Rattle.protocol.specs.Calls.{Ok, Err, Refusal, WrongSize, OtherRegister, NoEntry, NoCell, Barred, World, bad-size, bad-count, Out, refused-if, idled, blank, idle-records, opened-if, collected-at, begun, collected, withdrawing, stepping, entered}
 use Rattle.protocol.specs.Turns.{Turn, begin, step, collect, withdraw, enter, turned-over, turned, Log, no-log, log-at, logged-over, logged, after-turns}
 use Rattle.protocol.specs.OneWorker.{table, Alike}
 use Rattle.protocol.specs.Safety.{New-once, Promise, Safe-from, Safe}
+use Rattle.protocol.specs.Examples.{answers}
 use Rattle.protocol.proofs.Lawful.{Lawful, lawful}
 use Rattle.protocol.proofs.Basics.{order-refl}
 use Rattle.protocol.proofs.Standings.{Told, stage-is, holder, holder-busy}
@@ -82,7 +83,7 @@ module _ {K : Type 0} {N : ℕ} (κ : Lawful K N) (filler : K) where
   collect-gives : (w : World K) (g : Log K) → Kept κ filler w g → (n s : ℕ) (a : Answer) → collected N w n s .1 ≡ Ok a → g .answer s ≡ took a
   unfolding collected
   collect-gives w g f n s a =
-      by-check Gives (bad-size N) Size w _ no-answer (λ _.
+      by-check Gives (bad-size N) WrongSize w _ no-answer (λ _.
         by-check Gives (not (eqb n (w .number))) OtherRegister w _ no-answer (λ _.
           by-station Gives w s _ no-answer (λ b u e.
             by-check Gives (u .withdrawn) NoEntry w _ no-answer (λ _. given-at u (ap (λ x. seat κ filler x (nth (w .stations) s)) b ∙ ap (seat κ filler false) e) (standing (u .stage)) (stage-is (u .stage))))))
@@ -161,13 +162,13 @@ module _ {K : Type 0} {order : K → K → Ordering} {home : K → ℕ → ℕ} 
     barred-same = subst (λ m. (k : K) → entered (kind-over order home m) w k .1 ≡ Err Barred → entered (kind-over order home m) w k .0 ≡ w) (sym (f .size)) (barred-unchanged κ w (f .size));
   }
 
-refuses : {K A : Type 0} (w : World K) (b : Bool) (o : Out K A) → b ≡ true → refused-if b Size w o ≡ (w, Err Size)
+refuses : {K A : Type 0} (w : World K) (b : Bool) (o : Out K A) → b ≡ true → refused-if b WrongSize w o ≡ (w, Err WrongSize)
 unfolding refused-if
-refuses w b o e = ap (λ x. refused-if x Size w o) e
+refuses w b o e = ap (λ x. refused-if x WrongSize w o) e
 
 module _ {K : Type 0} (order : K → K → Ordering) (home : K → ℕ → ℕ) (w : World K) (bad : bad-size (length (w .cells)) ≡ true) where
   -- every turn is refused
-  all-refused : (t : Turn K) → turned order home w t ≡ (w, Err Size)
+  all-refused : (t : Turn K) → turned order home w t ≡ (w, Err WrongSize)
   unfolding begun stepping collected withdrawing entered
   all-refused (begin s k) = refuses w _ _ bad
   all-refused (step s) = refuses w _ _ bad
@@ -176,11 +177,11 @@ module _ {K : Type 0} (order : K → K → Ordering) (home : K → ℕ → ℕ) 
   all-refused (enter k) = refuses w _ _ bad
 
   -- and nothing is logged
-  refused-log : (t : Turn K) (g : Log K) → logged-over (kind-over order home (length (w .cells))) w t (w, Err Size) g ≡ g
+  refused-log : (t : Turn K) (g : Log K) → logged-over (kind-over order home (length (w .cells))) w t (w, Err WrongSize) g ≡ g
   refused-log (begin s k) g = refl
   refused-log (step s) g = go (nth (w .stations) s)
     where
-      go : (y : Content (Station K)) → log-at (kind-over order home (length (w .cells))) w s y (w, Err Size) g ≡ g
+      go : (y : Content (Station K)) → log-at (kind-over order home (length (w .cells))) w s y (w, Err WrongSize) g ≡ g
       go empty = refl
       go (holds t) = refl
   refused-log (collect n s) g = refl

@@ -13,8 +13,9 @@ use Rattle.protocol.specs.declared.Station.{Station}
 use Rattle.protocol.specs.Cells.{Content, empty, updated, nth, contents, marks, cells-after}
 use Rattle.protocol.specs.Stages.{Stage, Idle, Home, Answered, Standing, resting, homing, under-way, done, standing, busy-by, busy, idle-by, is-idle, holds-mark}
 use Rattle.protocol.specs.Step.{Effect, Decision}
-use Rattle.protocol.specs.Calls.{Size, World, bad-size, bad-count, idled, ends-by, whole-answer, enough, decision, alone, entered}
+use Rattle.protocol.specs.Calls.{WrongSize, World, bad-size, bad-count, idled, ends-by, whole-answer, enough, decision, alone, entered}
 use Rattle.protocol.specs.Turns.{enter, Log, noted, watched, log-enter}
+use Rattle.protocol.specs.Examples.{answers}
 use Rattle.protocol.proofs.Lawful.{Lawful}
 use Rattle.protocol.proofs.Basics.{updated-same, updated-at, updated-other}
 use Rattle.protocol.proofs.Standings.{Told, stage-is, holder}
@@ -140,4 +141,4 @@ module _ {K : Type 0} {N : ℕ} (κ : Lawful K N) (filler : K) (w : World K) (g 
 
   pub entered-kept : Goal κ filler w g f (enter k) (entered (κ .kind) w k)
   unfolding entered Goal Wide left-over
-  entered-kept = by-check (λ o. Kept κ filler (o .0) (log-enter k (o .1) g)) (bad-size N) Size w _ f (λ _. alone-kept (enough N) (w .cells) Home mid-start refl tt (omega arith))
+  entered-kept = by-check (λ o. Kept κ filler (o .0) (log-enter k (o .1) g)) (bad-size N) WrongSize w _ f (λ _. alone-kept (enough N) (w .cells) Home mid-start refl tt (omega arith))

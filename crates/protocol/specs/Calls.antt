@@ -7,7 +7,7 @@ use lib.ListN.{length, set}
 pub use Rattle.std.specs.declared.result.Result.{Result}
 pub use Rattle.std.specs.declared.result.Result.the-variants.{Ok, Err}
 pub use Rattle.protocol.specs.declared.Refusal.{Refusal}
-pub use Rattle.protocol.specs.declared.Refusal.the-variants.{Size, OtherRegister, NoStation, NotIdle, NoEntry, NoCell, NotAnswered, Barred}
+pub use Rattle.protocol.specs.declared.Refusal.the-variants.{WrongSize, OtherRegister, NoStation, NotIdle, NoEntry, NoCell, NotAnswered, Barred}
 pub use Rattle.protocol.specs.declared.Progress.{Progress}
 pub use Rattle.protocol.specs.declared.Progress.the-variants.{GoesOn as goes-on, Answered as says-answered, Idle as says-idle}
 pub use Rattle.protocol.specs.declared.Departure.{Departure}
@@ -99,14 +99,14 @@ module _ {K : Type 0} where
 module _ {K : Type 0} (N : ℕ) where
   unfoldable pub begun : World K → ℕ → K → Out K Slip-numbers
   begun w s k =
-      refused-if (bad-size N) Size w
+      refused-if (bad-size N) WrongSize w
         (at-station w s
           (λ t. refused-if (not (is-idle (t .stage))) NotIdle w
             (seated w s (fresh k), Ok (w .number, s))))
 
   unfoldable pub collected : World K → ℕ → ℕ → Out K Answer
   collected w number s =
-      refused-if (bad-size N) Size w
+      refused-if (bad-size N) WrongSize w
         (refused-if (not (eqb number (w .number))) OtherRegister w
           (at-station w s
             (λ t. refused-if (t .withdrawn) NoEntry w
@@ -114,7 +114,7 @@ module _ {K : Type 0} (N : ℕ) where
 
   unfoldable pub withdrawing : World K → ℕ → ℕ → Out K Departure
   withdrawing w number s =
-      refused-if (bad-size N) Size w
+      refused-if (bad-size N) WrongSize w
         (refused-if (not (eqb number (w .number))) OtherRegister w
           (at-station w s
             (λ t. refused-if (is-idle (t .stage) || t .withdrawn) NoEntry w
@@ -166,7 +166,7 @@ module _ {K : Type 0} {N : ℕ} (κ : Kind K N) where
 
   unfoldable pub stepping : World K → ℕ → Out K Progress
   stepping w s =
-      refused-if (bad-size N) Size w
+      refused-if (bad-size N) WrongSize w
         (at-station w s
           (λ t. refused-if (not (busy (t .stage))) NoEntry w
             (refused-if (not (names-cells N (t .stage))) NoCell w
@@ -184,4 +184,4 @@ module _ {K : Type 0} {N : ℕ} (κ : Kind K N) where
   entered-by w o = (record { number = w .number; cells = o .0; stations = w .stations }, whole-answer (standing (o .1)))
 
   unfoldable pub entered : World K → K → Out K Answer
-  entered w k = refused-if (bad-size N) Size w (entered-by w (alone (enough N) k (w .cells) Home))
+  entered w k = refused-if (bad-size N) WrongSize w (entered-by w (alone (enough N) k (w .cells) Home))

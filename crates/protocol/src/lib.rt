@@ -8,6 +8,7 @@
 ghost use mathlib.Core.Path.{_≡_};
 ghost use Rattle.protocol.specs.Refusals.{numberOf};
 ghost use Rattle.protocol.specs.Safety.{Safe};
+ghost use Rattle.protocol.specs.Examples.{Examples};
 use keys::Key;
 
 /// One cell of the caller's memory: empty or occupied by a key, marked or unmarked.
@@ -130,7 +131,7 @@ pub enum Departure {
 #[derive(Clone, Copy)]
 pub enum Refusal {
     /// The register has no cells or more than 65,536.
-    Size,
+    WrongSize,
     /// The slip has another register's number.
     OtherRegister,
     /// There are no stations or more than 64, or the number is not among them.
@@ -153,7 +154,7 @@ impl Refusal {
         ensures { λ r. ⌜ r ≡ numberOf self ⌝ }
     {
         match self {
-            Refusal::Size => 1,
+            Refusal::WrongSize => 1,
             Refusal::OtherRegister => 2,
             Refusal::NoStation => 3,
             Refusal::NotIdle => 4,
@@ -172,3 +173,8 @@ pub fn protocol_is_safe<K: Key>()
 {
 }
 
+/// The worked examples of the rules, over trays.
+pub fn examples_hold()
+    ensures { λ _. ⌜ Examples ⌝ }
+{
+}
