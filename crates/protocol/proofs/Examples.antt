@@ -1,11 +1,11 @@
 -- The worked examples, by computation.
 use mathlib.Core.Path.{refl}
-use Rattle.protocol.specs.Calls.{refused-if, with-record, begun, collected, stepping, alone, entered}
+use Rattle.protocol.specs.Calls.{refused-if, for-record, beginning, collecting, stepping, alone, whole-entry}
 use Rattle.protocol.specs.OneWorker.{all-occupied, empty-left, empty-right, has, slide-left, slide-right, one-worker}
 use Rattle.protocol.specs.Examples.{entering, answers, steps, sayings, worked, worker-answers, Examples}
 
 pub examples : Examples
-unfolding entering answers steps sayings worked worker-answers one-worker all-occupied empty-left empty-right has slide-left slide-right refused-if with-record begun stepping collected alone entered
+unfolding entering answers steps sayings worked worker-answers one-worker all-occupied empty-left empty-right has slide-left slide-right refused-if for-record beginning stepping collecting alone whole-entry
 examples = record {
   ten-worker = refl;
   ten = refl;

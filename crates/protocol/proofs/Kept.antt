@@ -14,7 +14,7 @@ use Rattle.protocol.specs.Refusals.{numberOf}
 use Rattle.protocol.specs.Cells.{Content, empty, holds, cell, updated, nth, contents, marks, cells-after}
 use Rattle.protocol.specs.Stages.{Stage, Idle, Answered, Standing, resting, homing, under-way, done, standing, busy, is-idle, settled, held-by, holds-mark, names-cells}
 use Rattle.protocol.specs.Step.{Effect, nothing, Decision, decide}
-use Rattle.protocol.specs.Calls.{Ok, Err, Refusal, WrongSize, OtherRegister, NoStation, NotIdle, NoEntry, NoCell, Progress, World, bad-size, bad-count, Out, refused-if, with-record, at-station, seated, fresh, idled, leaving, collected-at, withdrawn-at, begun, collected, withdrawing, decision, stepped-at, stepping}
+use Rattle.protocol.specs.Calls.{Ok, Err, Refusal, WrongSize, OtherRegister, NoStation, NotIdle, NoEntry, NoCell, Progress, World, bad-size, bad-count, Out, refused-if, for-record, at-station, put-record, fresh, idled, leaving, collecting-at, withdrawing-at, beginning, collecting, withdrawing, decision, stepping-at, stepping}
 use Rattle.protocol.specs.Turns.{Turn, begin, step, collect, withdraw, Reply, Log, latest, watched, log-at, logged-over}
 use Rattle.protocol.proofs.Lawful.{Lawful}
 use Rattle.protocol.proofs.Basics.{updated-same, updated-at, updated-other, updated-all}
@@ -38,10 +38,10 @@ by-check P false e w o x y = y refl
 
 pub by-station : {K A : Type 0} (P : Out K A → Type 0) (w : World K) (s : ℕ) (f : Station K → Out K A) → P (w, Err NoStation)
     → (bad-count (length (w .stations)) ≡ false → (u : Station K) → nth (w .stations) s ≡ holds u → P (f u)) → P (at-station w s f)
-unfolding with-record
-by-station P w s f x y = by-check P (bad-count (length (w .stations))) NoStation w (with-record w (nth (w .stations) s) f) x (λ b. go (nth (w .stations) s) refl b)
+unfolding for-record
+by-station P w s f x y = by-check P (bad-count (length (w .stations))) NoStation w (for-record w (nth (w .stations) s) f) x (λ b. go (nth (w .stations) s) refl b)
   where
-    go : (o : Content (Station _)) → nth (w .stations) s ≡ o → bad-count (length (w .stations)) ≡ false → P (with-record w o f)
+    go : (o : Content (Station _)) → nth (w .stations) s ≡ o → bad-count (length (w .stations)) ≡ false → P (for-record w o f)
     go empty e b = x
     go (holds u) e b = y b u e
 
@@ -119,15 +119,15 @@ module _ {K : Type 0} {N : ℕ} (κ : Lawful K N) where
           -- a turn that writes the record of s alone
           seated-kept : (t : Station K) (x : Bool) (un : ℕ → Bool) (an : ℕ → Effect) → Inv κ (with-station (state w g) s t x) → ((r : ℕ) → un r ≡ updated (g .unfinished) s x r)
               → (is-idle (t .stage) ≡ false → an s ≡ given (t .stage)) → ((r : ℕ) → s ≢ r → an r ≡ g .answer r) → names-cells N (t .stage) ≡ true
-              → Kept (seated w s t) (record { effects = g .effects; unfinished = un; held = g .held; answer = an })
+              → Kept (put-record w s t) (record { effects = g .effects; unfinished = un; held = g .held; answer = an })
           seated-kept t x un an i eu here there nm = record {
-            inv = inv-ext (with-station (state w g) s t x) (state (seated w s t) (record { effects = g .effects; unfinished = un; held = g .held; answer = an })) (λ p. refl) (λ p. refl) (seats-set t) refl eu (λ r p. refl) i;
+            inv = inv-ext (with-station (state w g) s t x) (state (put-record w s t) (record { effects = g .effects; unfinished = un; held = g .held; answer = an })) (λ p. refl) (λ p. refl) (seats-set t) refl eu (λ r p. refl) i;
             size = f .size;
             answers = seated-all (λ r y. is-idle (y .stage) ≡ false → an r ≡ given (y .stage)) t here (λ r n i. there r n ∙ f .answers r i);
             named = seated-all (λ r y. names-cells N (y .stage) ≡ true) t nm (λ r n. f .named r);
           }
 
-          begin-kept : (k : K) → not (is-idle (u .stage)) ≡ false → Goal (begin s k) (seated w s (fresh k), Ok (w .number, s))
+          begin-kept : (k : K) → not (is-idle (u .stage)) ≡ false → Goal (begin s k) (put-record w s (fresh k), Ok (w .number, s))
           unfolding Goal
           begin-kept k h = seated-kept (fresh k) true (updated (g .unfinished) s true) (updated (g .answer) s nothing)
               (begin-inv κ (state w g) (f .inv) s k (ap (λ x. x .stage) seat-is ∙ idle-is (u .stage) h)) (λ r. refl) (λ _. updated-same (g .answer) s nothing) (λ r n. updated-other (g .answer) s r nothing n) refl
@@ -141,7 +141,7 @@ module _ {K : Type 0} {N : ℕ} (κ : Lawful K N) where
           named-is : names-cells N (u .stage) ≡ true
           named-is = ap (λ x. names-cells N (x .stage)) (sym seat-is) ∙ f .named s
 
-          collect-kept : (n : ℕ) (y : Standing) → Told (u .stage) y → Goal (collect n s) (collected-at w s u y)
+          collect-kept : (n : ℕ) (y : Standing) → Told (u .stage) y → Goal (collect n s) (collecting-at w s u y)
           unfolding Goal
           collect-kept n resting z = f
           collect-kept n homing z = f
@@ -151,14 +151,14 @@ module _ {K : Type 0} {N : ℕ} (κ : Lawful K N) where
               (λ r. ⊎-elim (λ (q : s ≡ r). ap (g .unfinished) (sym q) ∙ open-unfinished ∙ ap busy z ∙ sym (updated-at (g .unfinished) s r false q)) (λ m. sym (updated-other (g .unfinished) s r false m)) (cases-eq s r))
               (λ h. absurd (both-ways true h refl)) (λ r m. refl) refl
 
-          withdraw-kept : (n : ℕ) (x : Bool) → holds-mark N (u .stage) ≡ x → Goal (withdraw n s) (withdrawn-at w s u x)
+          withdraw-kept : (n : ℕ) (x : Bool) → holds-mark N (u .stage) ≡ x → Goal (withdraw n s) (withdrawing-at w s u x)
           unfolding Goal
           withdraw-kept n true z = seated-kept (leaving u) (g .unfinished s) (updated (g .unfinished) s (g .unfinished s)) (g .answer)
               (subst (λ y. Inv κ (with-station (state w g) s (leaving y) (g .unfinished s))) seat-is (leaving-inv κ (state w g) (f .inv) s)) (λ r. refl) answer-is (λ r m. refl) named-is
           withdraw-kept n false z = seated-kept (idled u) false (updated (g .unfinished) s false) (g .answer)
               (subst (λ y. Inv κ (with-station (state w g) s (idled y) false)) seat-is (rest-inv κ (state w g) (f .inv) s (u .stage) (ap (λ y. y .stage) seat-is) z)) (λ r. refl) (λ i. absurd (both-ways true i refl)) (λ r m. refl) refl
 
-          step-kept : busy (u .stage) ≡ true → Goal (step s) (stepped-at (κ .kind) w s u (decision (κ .kind) (w .cells) (u .key) (u .stage)))
+          step-kept : busy (u .stage) ≡ true → Goal (step s) (stepping-at (κ .kind) w s u (decision (κ .kind) (w .cells) (u .key) (u .stage)))
           unfolding Goal
           step-kept h = subst (Kept v) (sym (ap (λ y. log-at (κ .kind) w s y o g) e)) kept
             where
@@ -167,7 +167,7 @@ module _ {K : Type 0} {N : ℕ} (κ : Lawful K N) where
               x : Stage
               x = settled (u .withdrawn) (m .next)
               o : Out K Progress
-              o = stepped-at (κ .kind) w s u m
+              o = stepping-at (κ .kind) w s u m
               t : Station K
               t = stepped-record u x
               v : World K
@@ -198,8 +198,8 @@ module _ {K : Type 0} {N : ℕ} (κ : Lawful K N) where
             go empty = f
             go (holds t) = f
 
-        pub begun-kept : (k : K) → Goal (begin s k) (begun N w s k)
-        unfolding begun Goal
+        pub begun-kept : (k : K) → Goal (begin s k) (beginning N w s k)
+        unfolding beginning Goal
         begun-kept k =
             by-check (Goal (begin s k)) (bad-size N) WrongSize w _ f (λ _.
               by-station (Goal (begin s k)) w s _ f (λ b u e.
@@ -213,8 +213,8 @@ module _ {K : Type 0} {N : ℕ} (κ : Lawful K N) where
                 by-check (Goal (step s)) (not (busy (u .stage))) NoEntry w _ (step-refused NoEntry) (λ h.
                   by-check (Goal (step s)) (not (names-cells N (u .stage))) NoCell w _ (step-refused NoCell) (λ _. step-kept b u e (not-false (busy (u .stage)) h)))))
 
-        pub collected-kept : (n : ℕ) → Goal (collect n s) (collected N w n s)
-        unfolding collected Goal
+        pub collected-kept : (n : ℕ) → Goal (collect n s) (collecting N w n s)
+        unfolding collecting Goal
         collected-kept n =
             by-check (Goal (collect n s)) (bad-size N) WrongSize w _ f (λ _.
               by-check (Goal (collect n s)) (not (eqb n (w .number))) OtherRegister w _ f (λ _.
@@ -236,7 +236,7 @@ module _ {K : Type 0} {N : ℕ} (κ : Lawful K N) where
             by-check Other (bad-size N) WrongSize w _ (by-number WrongSize (omega arith)) (λ _.
               by-station Other w s _ (by-number NoStation (omega arith)) (λ b u e.
                 by-check Other (not (busy (u .stage))) NoEntry w _ (by-number NoEntry (omega arith)) (λ _.
-                  subst (λ x. Other (refused-if (not x) NoCell w (stepped-at (κ .kind) w s u (decision (κ .kind) (w .cells) (u .key) (u .stage))))) (sym (named-is b u e)) (λ z. let y : _≡_ {A = ℕ} 0 1 = cc in omega arith))))
+                  subst (λ x. Other (refused-if (not x) NoCell w (stepping-at (κ .kind) w s u (decision (κ .kind) (w .cells) (u .key) (u .stage))))) (sym (named-is b u e)) (λ z. let y : _≡_ {A = ℕ} 0 1 = cc in omega arith))))
           where
             Other : Out K Progress → Type 0
             Other o = o .1 ≡ Err NoCell → ⊥

@@ -71,7 +71,7 @@ module _ {K : Type 0} {N : ℕ} (κ : Lawful K N) {T : ℕ → Content K} {M : �
           (c .sorted)
 
     end-left : higher (κ .kind) (ky s) (T u) ≡ false → ((p : ℕ) (x : K) → p < (suc u) → S p ≡ holds x → κ .kind .order x (ky s) ≡ before) → Done κ c s (decided (Write (suc u) (ky s)) (ReleaseLeft l r Inserted) (took Inserted))
-    end-left stop lesser = (subst (λ X. Core κ T′ M O ky (updated st s (ReleaseLeft l r Inserted)) X) (sym (ap (λ z. z .0) w)) core, answer-new κ k S S′ w stays (suc u) (gap (suc u) refl))
+    end-left stop lesser = (subst (λ X. Core κ T′ M O ky (updated st s (ReleaseLeft l r Inserted)) X) (sym (ap (λ z. z .0) w)) core, answer-new κ k S S′ w kept-keys (suc u) (gap (suc u) refl))
       where
         k : K
         k = ky s
@@ -93,8 +93,8 @@ module _ {K : Type 0} {N : ℕ} (κ : Lawful K N) {T : ℕ → Content K} {M : �
         gap p a = ap S′ (let z : p ≡ suc u = omega arith in z) ∙ sl .gap
         went : (p : ℕ) → (suc u) < p → p ≤ r → S′ p ≡ S (pred p)
         went p a b = ap S′ (let z : p ≡ suc (pred p) = omega arith in z) ∙ sl .moved (pred p) (omega arith) (omega arith)
-        stays : (x : K) (p : ℕ) → S p ≡ holds x → (q : ℕ) × (S′ q ≡ holds x)
-        stays x p z =
+        kept-keys : (x : K) (p : ℕ) → S p ≡ holds x → (q : ℕ) × (S′ q ≡ holds x)
+        kept-keys x p z =
             ⊎-elim (λ (a : p < (suc u)). (p, under p a ∙ z))
               (λ a. ⊎-elim (λ (b : r < p). (p, sl .above p b ∙ z)) (λ b. ⊎-elim (λ (y : r ≡ p). absurd (not-both (ap S (sym y) ∙ d .er) (holds-occ z))) (λ n. (suc p, sl .moved p (omega arith) (omega arith) ∙ z)) (cases-eq r p)) (cases-lt r p))
               (cases-lt p (suc u))
@@ -199,7 +199,7 @@ module _ {K : Type 0} {N : ℕ} (κ : Lawful K N) {T : ℕ → Content K} {M : �
           (c .sorted)
 
     end-right : lower (κ .kind) (ky s) (T (suc (suc u))) ≡ false → ((p : ℕ) (x : K) → (suc u) < p → S p ≡ holds x → κ .kind .order (ky s) x ≡ before) → Done κ c s (decided (Write (suc u) (ky s)) (ReleaseLeft l r Inserted) (took Inserted))
-    end-right stop upper = (subst (λ X. Core κ T′ M O ky (updated st s (ReleaseLeft l r Inserted)) X) (sym (ap (λ z. z .0) w)) core, answer-new κ k S S′ w stays (suc u) (sl .gap))
+    end-right stop upper = (subst (λ X. Core κ T′ M O ky (updated st s (ReleaseLeft l r Inserted)) X) (sym (ap (λ z. z .0) w)) core, answer-new κ k S S′ w kept-keys (suc u) (sl .gap))
       where
         k : K
         k = ky s
@@ -215,8 +215,8 @@ module _ {K : Type 0} {N : ℕ} (κ : Lawful K N) {T : ℕ → Content K} {M : �
         w = let hN = κ .place-high (ky s) in worker-gap κ S k l r l absent (d .cell-l) (omega arith) (d .el) (d .region .l-h) (d .region .h-r) (d .region .top) (d .el) (d .er) solid-s ∙ ap (λ b. from-side (κ .kind) b S k l r) (d .chosen)
         sl : Slid-down S S′ k l (suc u)
         sl = slid-down κ N S k l (suc u) (omega arith) (omega arith) (λ q x y. is-lower κ k (S q) (d .befores q x y)) (ap (lower (κ .kind) k) s-next ∙ stop)
-        stays : (x : K) (p : ℕ) → S p ≡ holds x → (q : ℕ) × (S′ q ≡ holds x)
-        stays x p z =
+        kept-keys : (x : K) (p : ℕ) → S p ≡ holds x → (q : ℕ) × (S′ q ≡ holds x)
+        kept-keys x p z =
             ⊎-elim (λ (a : (suc u) < p). (p, sl .above p a ∙ z))
               (λ a. ⊎-elim (λ (b : p < l). (p, sl .under p b ∙ z)) (λ b. ⊎-elim (λ (y : l ≡ p). absurd (not-both (ap S (sym y) ∙ d .el) (holds-occ z))) (λ n. (pred p, sl .moved (pred p) (omega arith) (omega arith) ∙ ap S (let w : suc (pred p) ≡ p = omega arith in w) ∙ z)) (cases-eq l p)) (cases-lt p l))
               (cases-lt (suc u) p)

@@ -15,7 +15,7 @@ use Rattle.protocol.specs.declared.Station.{Station}
 use Rattle.protocol.specs.Cells.{Content, empty, holds, nth, contents, marks}
 use Rattle.protocol.specs.Stages.{Answer, Idle, Standing, resting, homing, under-way, done, standing, busy, is-idle, names-cells}
 use Rattle.protocol.specs.Step.{Ordering, before, kind-over, took}
-use Rattle.protocol.specs.Calls.{Ok, Err, Refusal, WrongSize, OtherRegister, NoEntry, NoCell, Barred, World, bad-size, bad-count, Out, refused-if, idled, blank, idle-records, opened-if, collected-at, begun, collected, withdrawing, stepping, entered}
+use Rattle.protocol.specs.Calls.{Ok, Err, Refusal, WrongSize, OtherRegister, NoEntry, NoCell, Barred, World, bad-size, bad-count, Out, refused-if, idled, blank, idle-records, opening-if, collecting-at, beginning, collecting, withdrawing, stepping, whole-entry}
 use Rattle.protocol.specs.Turns.{Turn, begin, step, collect, withdraw, enter, turned-over, turned, Log, no-log, log-at, logged-over, logged, after-turns}
 use Rattle.protocol.specs.OneWorker.{table, Alike}
 use Rattle.protocol.specs.Safety.{New-once, Promise, Safe-from, Safe}
@@ -61,9 +61,9 @@ module _ {K : Type 0} {N : ℕ} (κ : Lawful K N) (filler : K) where
         held-is = e6; busy-is = λ s. e5 s ∙ sym (ap busy (e3 s)); alike = tt; new-once = tt; new-in = λ k h. elim h [ ];
       }
 
-  opened-kept : (number : ℕ) (cs : List (Cell K)) (ts : List (Station K)) → length (map (blank filler) cs) ≡ N → Kept κ filler (opened-if false number cs ts filler) no-log
+  opened-kept : (number : ℕ) (cs : List (Cell K)) (ts : List (Station K)) → length (map (blank filler) cs) ≡ N → Kept κ filler (opening-if false number cs ts filler) no-log
   opened-kept number cs ts size = record {
-    inv = blank-inv (state κ filler (opened-if false number cs ts filler) no-log) (contents-blank filler cs) (marks-blank filler cs) all-idle refl (λ s. refl) (λ s p. refl);
+    inv = blank-inv (state κ filler (opening-if false number cs ts filler) no-log) (contents-blank filler cs) (marks-blank filler cs) all-idle refl (λ s. refl) (λ s p. refl);
     size = size;
     answers = λ s h. absurd (both-ways (is-idle (seats κ filler (idle-records ts) s .stage)) h (ap is-idle (all-idle s)));
     named = λ s. ap (names-cells N) (all-idle s);
@@ -80,8 +80,8 @@ module _ {K : Type 0} {N : ℕ} (κ : Lawful K N) (filler : K) where
       all-idle s = by-count (bad-count (length ts)) refl s
 
   -- what a collection gives is the answer of the entry last begun there
-  collect-gives : (w : World K) (g : Log K) → Kept κ filler w g → (n s : ℕ) (a : Answer) → collected N w n s .1 ≡ Ok a → g .answer s ≡ took a
-  unfolding collected
+  collect-gives : (w : World K) (g : Log K) → Kept κ filler w g → (n s : ℕ) (a : Answer) → collecting N w n s .1 ≡ Ok a → g .answer s ≡ took a
+  unfolding collecting
   collect-gives w g f n s a =
       by-check Gives (bad-size N) WrongSize w _ no-answer (λ _.
         by-check Gives (not (eqb n (w .number))) OtherRegister w _ no-answer (λ _.
@@ -92,7 +92,7 @@ module _ {K : Type 0} {N : ℕ} (κ : Lawful K N) (filler : K) where
       Gives o = o .1 ≡ Ok a → g .answer s ≡ took a
       no-answer : {e : Refusal} → Err e ≡ Ok a → g .answer s ≡ took a
       no-answer z = let y : _≡_ {A = ℕ} 0 1 = cc in absurd (omega arith)
-      given-at : (u : Station K) → seats κ filler (w .stations) s ≡ u → (y : Standing) → Told (u .stage) y → Gives (collected-at w s u y)
+      given-at : (u : Station K) → seats κ filler (w .stations) s ≡ u → (y : Standing) → Told (u .stage) y → Gives (collecting-at w s u y)
       given-at u e resting t z = no-answer z
       given-at u e homing t z = no-answer z
       given-at u e under-way t z = no-answer z
@@ -152,14 +152,14 @@ module _ {K : Type 0} {order : K → K → Ordering} {home : K → ℕ → ℕ} 
       held-once = one-holder κ filler w g f;
       held-marked = λ s p h. marked-by κ (f .inv .core) s p s (is-by-true s (f .inv .owner p) (sym (f .inv .held-is s p) ∙ h));
       alike = f .inv .alike;
-      collected = subst (λ m. (number s : ℕ) (a : Answer) → collected m w number s .1 ≡ Ok a → g .answer s ≡ took a) (sym (f .size)) (collect-gives κ filler w g f);
+      collected = subst (λ m. (number s : ℕ) (a : Answer) → collecting m w number s .1 ≡ Ok a → g .answer s ≡ took a) (sym (f .size)) (collect-gives κ filler w g f);
       same-cells = still-is κ filler w g f;
       each-once = once-each κ filler w g f;
       ascending = rising κ filler w g f;
       whole-ends = whole-over κ w (f .size);
     };
     no-stray = subst (λ m. (s : ℕ) → stepping (kind-over order home m) w s .1 ≡ Err NoCell → ⊥) (sym (f .size)) (never-stray κ filler w g f);
-    barred-same = subst (λ m. (k : K) → entered (kind-over order home m) w k .1 ≡ Err Barred → entered (kind-over order home m) w k .0 ≡ w) (sym (f .size)) (barred-unchanged κ w (f .size));
+    barred-same = subst (λ m. (k : K) → whole-entry (kind-over order home m) w k .1 ≡ Err Barred → whole-entry (kind-over order home m) w k .0 ≡ w) (sym (f .size)) (barred-unchanged κ w (f .size));
   }
 
 refuses : {K A : Type 0} (w : World K) (b : Bool) (o : Out K A) → b ≡ true → refused-if b WrongSize w o ≡ (w, Err WrongSize)
@@ -169,7 +169,7 @@ refuses w b o e = ap (λ x. refused-if x WrongSize w o) e
 module _ {K : Type 0} (order : K → K → Ordering) (home : K → ℕ → ℕ) (w : World K) (bad : bad-size (length (w .cells)) ≡ true) where
   -- every turn is refused
   all-refused : (t : Turn K) → turned order home w t ≡ (w, Err WrongSize)
-  unfolding begun stepping collected withdrawing entered
+  unfolding beginning stepping collecting withdrawing whole-entry
   all-refused (begin s k) = refuses w _ _ bad
   all-refused (step s) = refuses w _ _ bad
   all-refused (collect n s) = refuses w _ _ bad
@@ -215,9 +215,9 @@ safe {K} {order} {home} laws number cells stations filler = by-size (bad-size (l
   where
     sized : (n : ℕ) → bad-size n ≡ false → (1 ≤ n) × (n ≤ 65536)
     sized n e = (grind arith, grind arith)
-    by-size : (b : Bool) → bad-size (length cells) ≡ b → Safe-from order home (opened-if b number cells stations filler)
+    by-size : (b : Bool) → bad-size (length cells) ≡ b → Safe-from order home (opening-if b number cells stations filler)
     by-size true e = refused-safe order home (record { number = number; cells = cells; stations = stations }) e
     by-size false e =
         let n = length (map (blank filler) cells) in
         let z = sized n (ap bad-size (length-map cells (blank filler)) ∙ e) in
-        λ turns. promise laws n (z .0) (z .1) filler _ _ (turns-kept laws n (z .0) (z .1) filler turns (opened-if false number cells stations filler) no-log (opened-kept (lawful laws n (z .0) (z .1)) filler number cells stations refl))
+        λ turns. promise laws n (z .0) (z .1) filler _ _ (turns-kept laws n (z .0) (z .1) filler turns (opening-if false number cells stations filler) no-log (opened-kept (lawful laws n (z .0) (z .1)) filler number cells stations refl))

@@ -13,7 +13,7 @@ use Rattle.protocol.specs.declared.Station.{Station}
 use Rattle.protocol.specs.Cells.{Content, empty, updated, nth, contents, marks, cells-after}
 use Rattle.protocol.specs.Stages.{Stage, Idle, Home, Answered, Standing, resting, homing, under-way, done, standing, busy-by, busy, idle-by, is-idle, holds-mark}
 use Rattle.protocol.specs.Step.{Effect, Decision}
-use Rattle.protocol.specs.Calls.{WrongSize, World, bad-size, bad-count, idled, ends-by, whole-answer, enough, decision, alone, entered}
+use Rattle.protocol.specs.Calls.{WrongSize, World, bad-size, bad-count, idled, ends-by, whole-answer, enough, decision, alone, whole-entry}
 use Rattle.protocol.specs.Turns.{enter, Log, noted, watched, log-enter}
 use Rattle.protocol.specs.Examples.{answers}
 use Rattle.protocol.proofs.Lawful.{Lawful}
@@ -139,6 +139,6 @@ module _ {K : Type 0} {N : ℕ} (κ : Lawful K N) (filler : K) (w : World K) (g 
         (λ h. ends-kept cs′ (m .next) d′ (h .2) o (λ b′. alone-kept n cs′ (m .next) d′ b′ (h .0) (omega arith)) (standing (m .next)) (stage-is (m .next)) refl)
         (falls κ k (contents cs) (marks cs) (contents-inside κ k cs (d .size)) x b q)
 
-  pub entered-kept : Goal κ filler w g f (enter k) (entered (κ .kind) w k)
-  unfolding entered Goal Wide left-over
+  pub entered-kept : Goal κ filler w g f (enter k) (whole-entry (κ .kind) w k)
+  unfolding whole-entry Goal Wide left-over
   entered-kept = by-check (λ o. Kept κ filler (o .0) (log-enter k (o .1) g)) (bad-size N) WrongSize w _ f (λ _. alone-kept (enough N) (w .cells) Home mid-start refl tt (omega arith))

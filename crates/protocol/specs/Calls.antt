@@ -9,11 +9,11 @@ pub use Rattle.std.specs.declared.result.Result.the-variants.{Ok, Err}
 pub use Rattle.protocol.specs.declared.Refusal.{Refusal}
 pub use Rattle.protocol.specs.declared.Refusal.the-variants.{WrongSize, OtherRegister, NoStation, NotIdle, NoEntry, NoCell, NotAnswered, Barred}
 pub use Rattle.protocol.specs.declared.Progress.{Progress}
-pub use Rattle.protocol.specs.declared.Progress.the-variants.{GoesOn as goes-on, Answered as says-answered, Idle as says-idle}
 pub use Rattle.protocol.specs.declared.Departure.{Departure}
-pub use Rattle.protocol.specs.declared.Departure.the-variants.{Gone as gone, GoesOn as stays}
 use Rattle.protocol.specs.declared.Cell.{Cell}
 use Rattle.protocol.specs.declared.Station.{Station}
+use Rattle.protocol.specs.declared.Progress.the-variants as progress
+use Rattle.protocol.specs.declared.Departure.the-variants as departure
 use Rattle.protocol.specs.Cells.{Content, empty, holds, nth, contents, marks, cells-after}
 use Rattle.protocol.specs.Stages.{Answer, Stage, Idle, Home, Standing, resting, homing, under-way, done, standing, busy, is-idle, settled, holds-mark, names-cells}
 use Rattle.protocol.specs.Step.{after, Kind, Decision, decide}
@@ -46,17 +46,17 @@ module _ {K : Type 0} where
   refused-if true e w o = (w, Err e)
   refused-if false e w o = o
 
-  unfoldable pub with-record : {A : Type 0} → World K → Content (Station K) → (Station K → Out K A) → Out K A
-  with-record w empty f = (w, Err NoStation)
-  with-record w (holds t) f = f t
+  unfoldable pub for-record : {A : Type 0} → World K → Content (Station K) → (Station K → Out K A) → Out K A
+  for-record w empty f = (w, Err NoStation)
+  for-record w (holds t) f = f t
 
   -- the check for station s, and what follows with its record
   abbrev pub at-station : {A : Type 0} → World K → ℕ → (Station K → Out K A) → Out K A
-  at-station w s f = refused-if (bad-count (length (w .stations))) NoStation w (with-record w (nth (w .stations) s) f)
+  at-station w s f = refused-if (bad-count (length (w .stations))) NoStation w (for-record w (nth (w .stations) s) f)
 
   -- the record of station s is written
-  abbrev pub seated : World K → ℕ → Station K → World K
-  seated w s t = record { number = w .number; cells = w .cells; stations = set (w .stations) s t }
+  abbrev pub put-record : World K → ℕ → Station K → World K
+  put-record w s t = record { number = w .number; cells = w .cells; stations = set (w .stations) s t }
 
   abbrev pub fresh : K → Station K
   fresh k = record { key = k; stage = Home; withdrawn = false }
@@ -77,40 +77,40 @@ module _ {K : Type 0} where
   idle-records ts = cond (bad-count (length ts)) ts (map idled ts)
 
   -- over 0 cells or more than 65,536 it writes nothing
-  abbrev pub opened-if : Bool → ℕ → List (Cell K) → List (Station K) → K → World K
-  opened-if true number cs ts filler = record { number = number; cells = cs; stations = ts }
-  opened-if false number cs ts filler = record { number = number; cells = map (blank filler) cs; stations = idle-records ts }
+  abbrev pub opening-if : Bool → ℕ → List (Cell K) → List (Station K) → K → World K
+  opening-if true number cs ts filler = record { number = number; cells = cs; stations = ts }
+  opening-if false number cs ts filler = record { number = number; cells = map (blank filler) cs; stations = idle-records ts }
 
-  abbrev pub opened : ℕ → List (Cell K) → List (Station K) → K → World K
-  opened number cs ts filler = opened-if (bad-size (length cs)) number cs ts filler
+  abbrev pub opening : ℕ → List (Cell K) → List (Station K) → K → World K
+  opening number cs ts filler = opening-if (bad-size (length cs)) number cs ts filler
 
   -- only an answered entry is collected
-  abbrev pub collected-at : World K → ℕ → Station K → Standing → Out K Answer
-  collected-at w s t resting = (w, Err NoEntry)
-  collected-at w s t homing = (w, Err NotAnswered)
-  collected-at w s t under-way = (w, Err NotAnswered)
-  collected-at w s t (done a) = (seated w s (idled t), Ok a)
+  abbrev pub collecting-at : World K → ℕ → Station K → Standing → Out K Answer
+  collecting-at w s t resting = (w, Err NoEntry)
+  collecting-at w s t homing = (w, Err NotAnswered)
+  collecting-at w s t under-way = (w, Err NotAnswered)
+  collecting-at w s t (done a) = (put-record w s (idled t), Ok a)
 
   -- an entry that holds a mark is stepped on, any other is gone
-  abbrev pub withdrawn-at : World K → ℕ → Station K → Bool → Out K Departure
-  withdrawn-at w s t true = (seated w s (leaving t), Ok stays)
-  withdrawn-at w s t false = (seated w s (idled t), Ok gone)
+  abbrev pub withdrawing-at : World K → ℕ → Station K → Bool → Out K Departure
+  withdrawing-at w s t true = (put-record w s (leaving t), Ok departure.GoesOn)
+  withdrawing-at w s t false = (put-record w s (idled t), Ok departure.Gone)
 
 module _ {K : Type 0} (N : ℕ) where
-  unfoldable pub begun : World K → ℕ → K → Out K Slip-numbers
-  begun w s k =
+  unfoldable pub beginning : World K → ℕ → K → Out K Slip-numbers
+  beginning w s k =
       refused-if (bad-size N) WrongSize w
         (at-station w s
           (λ t. refused-if (not (is-idle (t .stage))) NotIdle w
-            (seated w s (fresh k), Ok (w .number, s))))
+            (put-record w s (fresh k), Ok (w .number, s))))
 
-  unfoldable pub collected : World K → ℕ → ℕ → Out K Answer
-  collected w number s =
+  unfoldable pub collecting : World K → ℕ → ℕ → Out K Answer
+  collecting w number s =
       refused-if (bad-size N) WrongSize w
         (refused-if (not (eqb number (w .number))) OtherRegister w
           (at-station w s
             (λ t. refused-if (t .withdrawn) NoEntry w
-              (collected-at w s t (standing (t .stage))))))
+              (collecting-at w s t (standing (t .stage))))))
 
   unfoldable pub withdrawing : World K → ℕ → ℕ → Out K Departure
   withdrawing w number s =
@@ -118,13 +118,13 @@ module _ {K : Type 0} (N : ℕ) where
         (refused-if (not (eqb number (w .number))) OtherRegister w
           (at-station w s
             (λ t. refused-if (is-idle (t .stage) || t .withdrawn) NoEntry w
-              (withdrawn-at w s t (holds-mark N (t .stage))))))
+              (withdrawing-at w s t (holds-mark N (t .stage))))))
 
 abbrev pub says-by : Standing → Progress
-says-by resting = says-idle
-says-by homing = goes-on
-says-by under-way = goes-on
-says-by (done a) = says-answered
+says-by resting = progress.Idle
+says-by homing = progress.GoesOn
+says-by under-way = progress.GoesOn
+says-by (done a) = progress.Answered
 
 -- what a step says of the stage it has led to
 abbrev pub says : Stage → Progress
@@ -153,16 +153,16 @@ module _ {K : Type 0} {N : ℕ} (κ : Kind K N) where
   decision cs k x = decide κ k x (contents cs) (marks cs)
 
   -- the cells and the record after a step that has led to stage x, and what it says; becoming idle ends the withdrawal
-  abbrev pub stepped-by : World K → ℕ → Station K → Decision K → Stage → Out K Progress
-  stepped-by w s t m x =
+  abbrev pub stepping-by : World K → ℕ → Station K → Decision K → Stage → Out K Progress
+  stepping-by w s t m x =
       (record {
         number = w .number;
         cells = cells-after (m .act) (w .cells);
         stations = set (w .stations) s (record { key = t .key; stage = x; withdrawn = t .withdrawn && busy x });
       }, Ok (says x))
 
-  abbrev pub stepped-at : World K → ℕ → Station K → Decision K → Out K Progress
-  stepped-at w s t m = stepped-by w s t m (settled (t .withdrawn) (m .next))
+  abbrev pub stepping-at : World K → ℕ → Station K → Decision K → Out K Progress
+  stepping-at w s t m = stepping-by w s t m (settled (t .withdrawn) (m .next))
 
   unfoldable pub stepping : World K → ℕ → Out K Progress
   stepping w s =
@@ -170,7 +170,7 @@ module _ {K : Type 0} {N : ℕ} (κ : Kind K N) where
         (at-station w s
           (λ t. refused-if (not (busy (t .stage))) NoEntry w
             (refused-if (not (names-cells N (t .stage))) NoCell w
-              (stepped-at w s t (decision (w .cells) (t .key) (t .stage))))))
+              (stepping-at w s t (decision (w .cells) (t .key) (t .stage))))))
 
   -- at most n steps of a fresh station: the cells, and the stage it has come to
   unfoldable pub alone : ℕ → K → List (Cell K) → Stage → List (Cell K) × Stage
@@ -180,8 +180,8 @@ module _ {K : Type 0} {N : ℕ} (κ : Kind K N) where
       let after = cells-after (m .act) cs in
       ends-by (standing (m .next)) (after, m .next) (alone n k after (m .next))
 
-  abbrev pub entered-by : World K → List (Cell K) × Stage → Out K Answer
-  entered-by w o = (record { number = w .number; cells = o .0; stations = w .stations }, whole-answer (standing (o .1)))
+  abbrev pub whole-entry-by : World K → List (Cell K) × Stage → Out K Answer
+  whole-entry-by w o = (record { number = w .number; cells = o .0; stations = w .stations }, whole-answer (standing (o .1)))
 
-  unfoldable pub entered : World K → K → Out K Answer
-  entered w k = refused-if (bad-size N) WrongSize w (entered-by w (alone (enough N) k (w .cells) Home))
+  unfoldable pub whole-entry : World K → K → Out K Answer
+  whole-entry w k = refused-if (bad-size N) WrongSize w (whole-entry-by w (alone (enough N) k (w .cells) Home))

@@ -8,10 +8,11 @@ use Rattle.keys.specs.Kinds.{trayOrder, trayHome}
 use Rattle.keys.specs.declared.Tray.{Tray}
 use Rattle.protocol.specs.declared.Cell.{Cell}
 use Rattle.protocol.specs.declared.Station.{Station}
+use Rattle.protocol.specs.declared.Progress.the-variants as progress
 use Rattle.protocol.specs.Cells.{Content, empty, holds, nth, content}
 use Rattle.protocol.specs.Stages.{Answer, Inserted, Found, Full, Home}
 use Rattle.protocol.specs.Step.{kind-over}
-use Rattle.protocol.specs.Calls.{Result, Ok, Err, Refusal, NoEntry, Progress, goes-on, says-answered, World, opened}
+use Rattle.protocol.specs.Calls.{Result, Ok, Err, Refusal, NoEntry, Progress, World, opening}
 use Rattle.protocol.specs.Turns.{Turn, begin, step, collect, enter, turned}
 use Rattle.protocol.specs.OneWorker.{one-worker}
 
@@ -32,7 +33,7 @@ old-station = record { key = tray 7; stage = Home; withdrawn = true }
 
 -- a register of n cells with two stations, just opened
 abbrev pub register : ℕ → World Tray
-register n = opened 5 (old-cells n) (old-station ∷ old-station ∷ []) (tray 0)
+register n = opening 5 (old-cells n) (old-station ∷ old-station ∷ []) (tray 0)
 
 abbrev pub does : World Tray → Turn Tray → World Tray
 does w t = turned trayOrder trayHome w t .0
@@ -99,9 +100,9 @@ pub record Examples : Type 0 where
   pub three-3 : row (entering (register 3) (500 ∷ 400 ∷ 450 ∷ [])) ≡ (holds 400 ∷ holds 450 ∷ holds 500 ∷ [])
   -- three cells, 500 held: a station alone enters 400 in 12 steps, and no 13th is accepted
   pub twelve : sayings begun-400 0 13
-    ≡ (Ok goes-on ∷ Ok goes-on ∷ Ok goes-on ∷ Ok goes-on ∷ Ok goes-on ∷ Ok goes-on ∷ Ok goes-on ∷ Ok goes-on ∷ Ok goes-on ∷ Ok goes-on ∷ Ok goes-on ∷ Ok says-answered ∷ Err NoEntry ∷ [])
+    ≡ (Ok progress.GoesOn ∷ Ok progress.GoesOn ∷ Ok progress.GoesOn ∷ Ok progress.GoesOn ∷ Ok progress.GoesOn ∷ Ok progress.GoesOn ∷ Ok progress.GoesOn ∷ Ok progress.GoesOn ∷ Ok progress.GoesOn ∷ Ok progress.GoesOn ∷ Ok progress.GoesOn ∷ Ok progress.Answered ∷ Err NoEntry ∷ [])
   pub twelve-collected : turned trayOrder trayHome (steps begun-400 0 12) (collect 5 0) .1 ≡ Ok Inserted
   pub twelve-cells : row (steps begun-400 0 12) ≡ (empty ∷ holds 400 ∷ holds 500 ∷ [])
   -- after its sixth step, 100 at another station stays at home
-  pub home-said : turned trayOrder trayHome begun-100 (step 1) .1 ≡ Ok goes-on
+  pub home-said : turned trayOrder trayHome begun-100 (step 1) .1 ≡ Ok progress.GoesOn
   pub home-stays : nth (does begun-100 (step 1) .stations) 1 ≡ holds (record { key = tray 100; stage = Home; withdrawn = false })

@@ -10,7 +10,7 @@ use Rattle.protocol.specs.declared.Station.{Station}
 use Rattle.protocol.specs.Cells.{holds, contents, marks}
 use Rattle.protocol.specs.Stages.{Answer, Inserted, Stage, Home, Answered}
 use Rattle.protocol.specs.Step.{Ordering, before, kind-over, took}
-use Rattle.protocol.specs.Calls.{Ok, Err, NoCell, Barred, World, opened, enough, alone}
+use Rattle.protocol.specs.Calls.{Ok, Err, NoCell, Barred, World, opening, enough, alone}
 use Rattle.protocol.specs.Turns.{Turn, step, collect, enter, turned, Log, no-log, after-turns}
 use Rattle.protocol.specs.OneWorker.{table, Alike}
 
@@ -61,4 +61,4 @@ module _ {K : Type 0} (order : K → K → Ordering) (home : K → ℕ → ℕ) 
 
   -- the theorem: from every opening, whatever the memory held
   abbrev pub Safe : Type 0
-  Safe = (number : ℕ) (cells : List (Cell K)) (stations : List (Station K)) (filler : K) → Safe-from (opened number cells stations filler)
+  Safe = (number : ℕ) (cells : List (Cell K)) (stations : List (Station K)) (filler : K) → Safe-from (opening number cells stations filler)

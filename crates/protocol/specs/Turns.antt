@@ -5,10 +5,12 @@ use Prim.Native.Nat.{ℕ}
 use lib.Dec.{eqb}
 use lib.ListN.{length}
 use Rattle.protocol.specs.declared.Station.{Station}
+use Rattle.protocol.specs.declared.Progress.the-variants as progress
+use Rattle.protocol.specs.declared.Departure.the-variants as departure
 use Rattle.protocol.specs.Cells.{Content, empty, holds, updated, nth, marks}
 use Rattle.protocol.specs.Stages.{Answer}
 use Rattle.protocol.specs.Step.{Ordering, Kind, kind-over, Effect, nothing, took}
-use Rattle.protocol.specs.Calls.{Result, Ok, Err, Refusal, Progress, goes-on, says-answered, says-idle, Departure, gone, stays, World, Out, Slip-numbers, begun, collected, withdrawing, decision, stepping, entered}
+use Rattle.protocol.specs.Calls.{Result, Ok, Err, Refusal, Progress, Departure, World, Out, Slip-numbers, beginning, collecting, withdrawing, decision, stepping, whole-entry}
 
 -- a call with what it is given: a station's number, a key, a slip's two numbers
 pub data Turn (K : Type 0) : Type 0 where
@@ -28,11 +30,11 @@ module _ {K : Type 0} where
   Reply (enter k) = Answer
 
   abbrev pub turned-over : {N : ℕ} → Kind K N → World K → (t : Turn K) → Out K (Reply t)
-  turned-over {N} κ w (begin s k) = begun N w s k
+  turned-over {N} κ w (begin s k) = beginning N w s k
   turned-over {N} κ w (step s) = stepping κ w s
-  turned-over {N} κ w (collect n s) = collected N w n s
+  turned-over {N} κ w (collect n s) = collecting N w n s
   turned-over {N} κ w (withdraw n s) = withdrawing N w n s
-  turned-over {N} κ w (enter k) = entered κ w k
+  turned-over {N} κ w (enter k) = whole-entry κ w k
 
 -- every call of a register, for a kind of key with this comparison and this home
 abbrev pub turned : {K : Type 0} → (K → K → Ordering) → (K → ℕ → ℕ) → World K → (t : Turn K) → Out K (Reply t)
@@ -63,13 +65,13 @@ latest (took a) old = took a
 
 -- an entry is unfinished until its step says ANSWERED or IDLE, or its withdrawal GONE
 abbrev pub after-progress : Progress → Bool → Bool
-after-progress goes-on old = old
-after-progress says-answered old = false
-after-progress says-idle old = false
+after-progress progress.GoesOn old = old
+after-progress progress.Answered old = false
+after-progress progress.Idle old = false
 
 abbrev pub after-departure : Departure → Bool → Bool
-after-departure gone old = false
-after-departure stays old = old
+after-departure departure.Gone old = false
+after-departure departure.GoesOn old = old
 
 -- an entry holds a cell from its step that marks it to its step that unmarks it: was it marked, is it now, was it held?
 abbrev pub watched : Bool → Bool → Bool → Bool
