@@ -11,7 +11,7 @@ use Rattle.protocol.specs.declared.Cell.{Cell}
 use Rattle.protocol.specs.Cells.{Content, empty, holds, cell, is-occupied, contents, marks, with-mark, alter-place, cells-after}
 use Rattle.protocol.specs.Stages.{Direction, Stage, Idle, Home, Look, Left, Right, FirstMark, SecondMark, GiveBack, Check, Shift, ReleaseLeft, ReleaseRight, Answered, Standing, resting, homing, under-way, done, standing}
 use Rattle.protocol.specs.Step.{before, same, after, Walk, Here, Ended, Onward, Decision, Versus, none, is, is-after, walk-at, beside, copy-due, at-home, at-look, at-left, at-right, at-first, at-second, absent, at-check, copied, release, versus, at-shift}
-use Rattle.protocol.specs.Calls.{Ok, Err, WrongSize, Barred, World, bad-size, ends-by, whole-answer, enough, decision, alone, whole-entry-by, whole-entry}
+use Rattle.protocol.specs.Calls.{Ok, Err, WrongSize, Barred, World, bad-size, decision, ends-by, alone, enough, whole-answer, whole-entry-by, whole-entry}
 use Rattle.protocol.specs.Safety.{Ended-stage}
 use Rattle.protocol.proofs.Lawful.{Lawful}
 use Rattle.protocol.proofs.Lists.{marks-elsewhere, contents-mark}
@@ -143,6 +143,6 @@ module _ {K : Type 0} {N : ℕ} (κ : Lawful K N) (w : World K) (size : length (
     where
       o : List (Cell K) × Stage
       o = alone (κ .kind) (enough N) k (w .cells) Home
-      by-end : Ended-stage (o .1) → whole-answer (standing (o .1)) ≡ Err Barred → whole-entry-by (κ .kind) w o .0 ≡ w
+      by-end : Ended-stage (o .1) → whole-answer (standing (o .1)) ≡ Err Barred → whole-entry-by w o .0 ≡ w
       by-end (inl h) e = let q : o .0 ≡ w .cells = subst (Quiet κ k (w .cells) (o .0)) h (alone-quiet κ k (w .cells) (enough N) (w .cells) Home refl) in λ i. record { number = w .number; cells = q i; stations = w .stations }
       by-end (inr h) e = let y : Ok (h .0) ≡ Err Barred = ap (λ x. whole-answer (standing x)) (sym (h .1)) ∙ e in let z : _≡_ {A = ℕ} 0 1 = cc in absurd (omega arith)

@@ -12,7 +12,7 @@ use Rattle.protocol.specs.declared.Cell.{Cell}
 use Rattle.protocol.specs.Cells.{Content, empty, holds, cell, is-occupied, contents, marks, cells-after}
 use Rattle.protocol.specs.Stages.{Answer, Inserted, Direction, Leftward, Rightward, Stage, Idle, Home, Look, Left, Right, FirstMark, SecondMark, GiveBack, Check, Shift, ReleaseLeft, ReleaseRight, Answered, Standing, resting, homing, under-way, done, standing, busy-by, busy, idle-by, is-idle}
 use Rattle.protocol.specs.Step.{before, same, after, Walk, Here, Ended, Onward, Versus, none, is, is-after, walk-at, beside, copy-due, at-home, at-look, at-left, at-right, at-first, give-up, at-second, absent, at-check, copied, release, versus, at-shift, decide}
-use Rattle.protocol.specs.Calls.{ends-by, decision, alone}
+use Rattle.protocol.specs.Calls.{decision, ends-by, alone}
 use Rattle.protocol.specs.Safety.{Ended-stage}
 use Rattle.protocol.proofs.Lawful.{Lawful}
 use Rattle.protocol.proofs.Basics.{not-both, holds-occ}

@@ -1,5 +1,5 @@
 -- A register with its log as functions of place and station: the form in which the proofs speak of it.
-use mathlib.Core.Bool.{Bool, true, false, cond, _&&_}
+use mathlib.Core.Bool.{Bool, true, false, cond}
 use mathlib.Core.List.{List}
 use Prim.Native.Nat.{ℕ}
 use lib.Dec.{eqb}
@@ -7,6 +7,7 @@ use Rattle.protocol.specs.declared.Station.{Station}
 use Rattle.protocol.specs.Cells.{Content, holds, Act, Rest, Mark, Unmark, Write, updated}
 use Rattle.protocol.specs.Stages.{Answer, Stage, busy, settled}
 use Rattle.protocol.specs.Step.{Kind, Decision, decide}
+use Rattle.protocol.specs.Calls.{stepped-record}
 use Rattle.protocol.specs.Turns.{noted, watched}
 
 pub record State (K : Type 0) : Type 0 where
@@ -33,10 +34,6 @@ module _ {K : Type 0} where
   -- station s gets the record t, and its entry is unfinished or not
   abbrev pub with-station : State K → ℕ → Station K → Bool → State K
   with-station w s t u = record { contents = w .contents; marked = w .marked; station = updated (w .station) s t; effects = w .effects; unfinished = updated (w .unfinished) s u; held = w .held }
-
-  -- the record of a station whose step has led to stage x
-  abbrev pub stepped-record : Station K → Stage → Station K
-  stepped-record t x = record { key = t .key; stage = x; withdrawn = t .withdrawn && busy x }
 
   abbrev pub step-by : State K → ℕ → Station K → Decision K → Stage → State K
   step-by w s t m x = record {

@@ -14,12 +14,12 @@ use Rattle.protocol.specs.Refusals.{numberOf}
 use Rattle.protocol.specs.Cells.{Content, empty, holds, cell, updated, nth, contents, marks, cells-after}
 use Rattle.protocol.specs.Stages.{Stage, Idle, Answered, Standing, resting, homing, under-way, done, standing, busy, is-idle, settled, held-by, holds-mark, names-cells}
 use Rattle.protocol.specs.Step.{Effect, nothing, Decision, decide}
-use Rattle.protocol.specs.Calls.{Ok, Err, Refusal, WrongSize, OtherRegister, NoStation, NotIdle, NoEntry, NoCell, Progress, World, bad-size, bad-count, Out, refused-if, for-record, at-station, put-record, fresh, idled, leaving, collecting-at, withdrawing-at, beginning, collecting, withdrawing, decision, stepping-at, stepping}
+use Rattle.protocol.specs.Calls.{Ok, Err, Refusal, WrongSize, OtherRegister, NoStation, NotIdle, NoEntry, NoCell, Progress, World, bad-size, bad-count, Out, refused-if, for-record, at-station, put-record, fresh, idled, leaving, beginning, collecting-at, collecting, withdrawing-at, withdrawing, stepped-record, stepping-by, decision, stepping}
 use Rattle.protocol.specs.Turns.{Turn, begin, step, collect, withdraw, Reply, Log, latest, watched, log-at, logged-over}
 use Rattle.protocol.proofs.Lawful.{Lawful}
 use Rattle.protocol.proofs.Basics.{updated-same, updated-at, updated-other, updated-all}
 use Rattle.protocol.proofs.Standings.{Told, stage-is, idle-is, settled-same, busy-not-idle, finish-is, holder-cell}
-use Rattle.protocol.proofs.Flow.{State, contents-after, marks-after, with-station, stepped-record, step-by, stepped}
+use Rattle.protocol.proofs.Flow.{State, contents-after, marks-after, with-station, step-by, stepped}
 use Rattle.protocol.proofs.Lists.{length-after, contents-act, marks-act, nth-same, nth-other}
 use Rattle.protocol.proofs.Inv.{Owner, free, by, taken, is-by, is-by-self}
 use Rattle.protocol.proofs.Phases.{given, once}
@@ -158,7 +158,7 @@ module _ {K : Type 0} {N : ℕ} (κ : Lawful K N) where
           withdraw-kept n false z = seated-kept (idled u) false (updated (g .unfinished) s false) (g .answer)
               (subst (λ y. Inv κ (with-station (state w g) s (idled y) false)) seat-is (rest-inv κ (state w g) (f .inv) s (u .stage) (ap (λ y. y .stage) seat-is) z)) (λ r. refl) (λ i. absurd (both-ways true i refl)) (λ r m. refl) refl
 
-          step-kept : busy (u .stage) ≡ true → Goal (step s) (stepping-at (κ .kind) w s u (decision (κ .kind) (w .cells) (u .key) (u .stage)))
+          step-kept : busy (u .stage) ≡ true → Goal (step s) (stepping-by w s u (decision (κ .kind) (w .cells) (u .key) (u .stage)))
           unfolding Goal
           step-kept h = subst (Kept v) (sym (ap (λ y. log-at (κ .kind) w s y o g) e)) kept
             where
@@ -167,7 +167,7 @@ module _ {K : Type 0} {N : ℕ} (κ : Lawful K N) where
               x : Stage
               x = settled (u .withdrawn) (m .next)
               o : Out K Progress
-              o = stepping-at (κ .kind) w s u m
+              o = stepping-by w s u m
               t : Station K
               t = stepped-record u x
               v : World K
@@ -236,7 +236,7 @@ module _ {K : Type 0} {N : ℕ} (κ : Lawful K N) where
             by-check Other (bad-size N) WrongSize w _ (by-number WrongSize (omega arith)) (λ _.
               by-station Other w s _ (by-number NoStation (omega arith)) (λ b u e.
                 by-check Other (not (busy (u .stage))) NoEntry w _ (by-number NoEntry (omega arith)) (λ _.
-                  subst (λ x. Other (refused-if (not x) NoCell w (stepping-at (κ .kind) w s u (decision (κ .kind) (w .cells) (u .key) (u .stage))))) (sym (named-is b u e)) (λ z. let y : _≡_ {A = ℕ} 0 1 = cc in omega arith))))
+                  subst (λ x. Other (refused-if (not x) NoCell w (stepping-by w s u (decision (κ .kind) (w .cells) (u .key) (u .stage))))) (sym (named-is b u e)) (λ z. let y : _≡_ {A = ℕ} 0 1 = cc in omega arith))))
           where
             Other : Out K Progress → Type 0
             Other o = o .1 ≡ Err NoCell → ⊥

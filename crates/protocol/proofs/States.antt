@@ -11,7 +11,7 @@ use Rattle.protocol.specs.declared.Station.{Station}
 use Rattle.protocol.specs.Cells.{Content, holds, updated, marks}
 use Rattle.protocol.specs.Stages.{Answer, Leftward, Rightward, Stage, Idle, Home, Look, Left, Right, FirstMark, SecondMark, GiveBack, Check, Shift, ReleaseLeft, ReleaseRight, Answered, Standing, resting, homing, under-way, done, standing, busy, settled-by, settled, held-by, holds-mark}
 use Rattle.protocol.specs.Step.{Effect, nothing, took, Decision, none, decide}
-use Rattle.protocol.specs.Calls.{fresh, idled, leaving}
+use Rattle.protocol.specs.Calls.{fresh, idled, leaving, stepped-record}
 use Rattle.protocol.specs.Turns.{noted, watched}
 use Rattle.protocol.specs.OneWorker.{one-worker, table, Alike}
 use Rattle.protocol.specs.Safety.{Was-new, now-new, earlier, New-once}
@@ -20,7 +20,7 @@ use Rattle.protocol.proofs.Basics.{updated-same, updated-at, updated-other}
 use Rattle.protocol.proofs.Sorted.{Sorted, inside}
 use Rattle.protocol.proofs.Worker.{worker-found}
 use Rattle.protocol.proofs.Standings.{Told, stage-is, holder, no-holder}
-use Rattle.protocol.proofs.Flow.{State, contents-after, marks-after, with-station, stepped-record, stepped}
+use Rattle.protocol.proofs.Flow.{State, contents-after, marks-after, with-station, stepped}
 use Rattle.protocol.proofs.Inv.{Owner, free, by, taken, is-by, owners-after, In-shift, is-by-self, table-after, Right-answer, Good, Core, still}
 use Rattle.protocol.proofs.Fence.{good-at, around}
 use Rattle.protocol.proofs.Easy.{Done, home-step, look-step, left-step, right-step, first-step, back-step, unleft-step, unright-step}

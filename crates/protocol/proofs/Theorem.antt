@@ -15,7 +15,7 @@ use Rattle.protocol.specs.declared.Station.{Station}
 use Rattle.protocol.specs.Cells.{Content, empty, holds, nth, contents, marks}
 use Rattle.protocol.specs.Stages.{Answer, Idle, Standing, resting, homing, under-way, done, standing, busy, is-idle, names-cells}
 use Rattle.protocol.specs.Step.{Ordering, before, kind-over, took}
-use Rattle.protocol.specs.Calls.{Ok, Err, Refusal, WrongSize, OtherRegister, NoEntry, NoCell, Barred, World, bad-size, bad-count, Out, refused-if, idled, blank, idle-records, opening-if, collecting-at, beginning, collecting, withdrawing, stepping, whole-entry}
+use Rattle.protocol.specs.Calls.{Ok, Err, Refusal, WrongSize, OtherRegister, NoEntry, NoCell, Barred, World, bad-size, bad-count, Out, refused-if, idled, blank, idle-records, opening-if, beginning, collecting-at, collecting, withdrawing, stepping, whole-entry}
 use Rattle.protocol.specs.Turns.{Turn, begin, step, collect, withdraw, enter, turned-over, turned, Log, no-log, log-at, logged-over, logged, after-turns}
 use Rattle.protocol.specs.OneWorker.{table, Alike}
 use Rattle.protocol.specs.Safety.{New-once, Promise, Safe-from, Safe}
@@ -156,8 +156,8 @@ module _ {K : Type 0} {order : K → K → Ordering} {home : K → ℕ → ℕ} 
       same-cells = still-is κ filler w g f;
       each-once = once-each κ filler w g f;
       ascending = rising κ filler w g f;
-      whole-ends = whole-over κ w (f .size);
     };
+    whole-ends = λ _ _. whole-over κ w (f .size);
     no-stray = subst (λ m. (s : ℕ) → stepping (kind-over order home m) w s .1 ≡ Err NoCell → ⊥) (sym (f .size)) (never-stray κ filler w g f);
     barred-same = subst (λ m. (k : K) → whole-entry (kind-over order home m) w k .1 ≡ Err Barred → whole-entry (kind-over order home m) w k .0 ≡ w) (sym (f .size)) (barred-unchanged κ w (f .size));
   }
@@ -200,6 +200,7 @@ module _ {K : Type 0} (order : K → K → Ordering) (home : K → ℕ → ℕ) 
   refused-promise = record {
     new-once = tt;
     condition = λ some few. absurd (both-ways (bad-size (length (w .cells))) (good-size (length (w .cells)) some few) bad);
+    whole-ends = λ some few. absurd (both-ways (bad-size (length (w .cells))) (good-size (length (w .cells)) some few) bad);
     no-stray = λ s e. let z = ap (λ o. o .1) (sym (all-refused (step s))) ∙ e in let y : _≡_ {A = ℕ} 0 1 = cc in omega arith;
     barred-same = λ k e. ap (λ o. o .0) (all-refused (enter k));
   }

@@ -13,7 +13,7 @@ use Rattle.protocol.specs.declared.Station.{Station}
 use Rattle.protocol.specs.Cells.{Content, empty, updated, nth, contents, marks, cells-after}
 use Rattle.protocol.specs.Stages.{Stage, Idle, Home, Answered, Standing, resting, homing, under-way, done, standing, busy-by, busy, idle-by, is-idle, holds-mark}
 use Rattle.protocol.specs.Step.{Effect, Decision}
-use Rattle.protocol.specs.Calls.{WrongSize, World, bad-size, bad-count, idled, ends-by, whole-answer, enough, decision, alone, whole-entry}
+use Rattle.protocol.specs.Calls.{WrongSize, World, bad-size, bad-count, idled, decision, ends-by, alone, enough, whole-answer, whole-entry}
 use Rattle.protocol.specs.Turns.{enter, Log, noted, watched, log-enter}
 use Rattle.protocol.specs.Examples.{answers}
 use Rattle.protocol.proofs.Lawful.{Lawful}

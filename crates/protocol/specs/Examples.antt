@@ -2,17 +2,18 @@
 -- a tray by its number
 use mathlib.Core.Path.{_≡_}
 use mathlib.Core.Bool.{true, false}
-use mathlib.Core.List.{List, [], _∷_, map}
+use mathlib.Core.List.{List, [], _∷_}
 use Prim.Native.Nat.{ℕ, zero, suc}
+use lib.ListN.{length}
 use Rattle.keys.specs.Kinds.{trayOrder, trayHome}
 use Rattle.keys.specs.declared.Tray.{Tray}
 use Rattle.protocol.specs.declared.Cell.{Cell}
 use Rattle.protocol.specs.declared.Station.{Station}
 use Rattle.protocol.specs.declared.Progress.the-variants as progress
-use Rattle.protocol.specs.Cells.{Content, empty, holds, nth, content}
+use Rattle.protocol.specs.Cells.{Content, empty, holds, nth}
 use Rattle.protocol.specs.Stages.{Answer, Inserted, Found, Full, Home}
 use Rattle.protocol.specs.Step.{kind-over}
-use Rattle.protocol.specs.Calls.{Result, Ok, Err, Refusal, NoEntry, Progress, World, opening}
+use Rattle.protocol.specs.Calls.{Result, Ok, Err, Refusal, NoEntry, Progress, World, opening, question}
 use Rattle.protocol.specs.Turns.{Turn, begin, step, collect, enter, turned}
 use Rattle.protocol.specs.OneWorker.{one-worker}
 
@@ -38,9 +39,13 @@ register n = opening 5 (old-cells n) (old-station ∷ old-station ∷ []) (tray 
 abbrev pub does : World Tray → Turn Tray → World Tray
 does w t = turned trayOrder trayHome w t .0
 
--- what the cells hold
+-- what n cells from number i on hold, by the question
+abbrev pub asked : World Tray → ℕ → ℕ → List (Content ℕ)
+asked w i zero = []
+asked w i (suc n) = number-in (question w i) ∷ asked w (suc i) n
+
 abbrev pub row : World Tray → List (Content ℕ)
-row w = map (λ c. number-in (content c)) (w .cells)
+row w = asked w 0 (length (w .cells))
 
 -- whole entries, one after another: what they leave and what they answer
 unfoldable pub entering : World Tray → List ℕ → World Tray

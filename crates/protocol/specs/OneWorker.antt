@@ -8,6 +8,10 @@ use Rattle.protocol.specs.Cells.{Content, empty, holds, is-occupied, updated}
 use Rattle.protocol.specs.Stages.{Answer, Inserted, Found, Full}
 use Rattle.protocol.specs.Step.{Ordering, before, same, after, Kind}
 
+-- what the worker leaves, and the answer
+abbrev pub Outcome : Type 0 → Type 0
+Outcome K = (ℕ → Content K) × Answer
+
 abbrev pub is-less : Ordering → Bool
 is-less before = true
 is-less same = false
@@ -68,36 +72,33 @@ module _ {K : Type 0} {N : ℕ} (κ : Kind K N) where
   slide-right zero S k g = updated S g (holds k)
   slide-right (suc n) S k g = cond (lower k (S (suc g))) (slide-right n (updated S g (S (suc g))) k (suc g)) (updated S g (holds k))
 
-  abbrev pub Outcome : Type 0
-  Outcome = (ℕ → Content K) × Answer
-
   -- the gap starts at r if r is a cell and either the key at home is after k or l is the edge; otherwise at l
   abbrev pub starts-right : (ℕ → Content K) → K → ℕ → ℕ → Bool
   starts-right S k l r = leb r N && (higher k (S (κ .place k)) || eqb l 0)
 
-  abbrev pub from-side : Bool → (ℕ → Content K) → K → ℕ → ℕ → Outcome
+  abbrev pub from-side : Bool → (ℕ → Content K) → K → ℕ → ℕ → Outcome K
   from-side true S k l r = (slide-left S k r, Inserted)
   from-side false S k l r = (slide-right N S k l, Inserted)
 
-  abbrev pub between : (ℕ → Content K) → K → ℕ → ℕ → Outcome
+  abbrev pub between : (ℕ → Content K) → K → ℕ → ℕ → Outcome K
   between S k l r = from-side (starts-right S k l r) S k l r
 
   -- all cells occupied: FULL
-  abbrev pub unless-full : Bool → (ℕ → Content K) → K → Outcome
+  abbrev pub unless-full : Bool → (ℕ → Content K) → K → Outcome K
   unless-full true S k = (S, Full)
   unless-full false S k = between S k (empty-left S (κ .place k)) (empty-right S N (κ .place k))
 
   -- an occupied cell holds k: FOUND
-  abbrev pub unless-found : Bool → (ℕ → Content K) → K → Outcome
+  abbrev pub unless-found : Bool → (ℕ → Content K) → K → Outcome K
   unless-found true S k = (S, Found)
   unless-found false S k = unless-full (all-occupied N S) S k
 
   -- home is empty: k is written there, INSERTED
-  abbrev pub unless-home : Bool → (ℕ → Content K) → K → Outcome
+  abbrev pub unless-home : Bool → (ℕ → Content K) → K → Outcome K
   unless-home false S k = (updated S (κ .place k) (holds k), Inserted)
   unless-home true S k = unless-found (has N S k) S k
 
-  unfoldable pub one-worker : (ℕ → Content K) → K → Outcome
+  unfoldable pub one-worker : (ℕ → Content K) → K → Outcome K
   one-worker S k = unless-home (is-occupied (S (κ .place k))) S k
 
   -- what one worker leaves after these entries, the latest first, begun on empty cells

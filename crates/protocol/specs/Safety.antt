@@ -10,7 +10,7 @@ use Rattle.protocol.specs.declared.Station.{Station}
 use Rattle.protocol.specs.Cells.{holds, contents, marks}
 use Rattle.protocol.specs.Stages.{Answer, Inserted, Stage, Home, Answered}
 use Rattle.protocol.specs.Step.{Ordering, before, kind-over, took}
-use Rattle.protocol.specs.Calls.{Ok, Err, NoCell, Barred, World, opening, enough, alone}
+use Rattle.protocol.specs.Calls.{Ok, Err, NoCell, Barred, World, opening, alone, enough}
 use Rattle.protocol.specs.Turns.{Turn, step, collect, enter, turned, Log, no-log, after-turns}
 use Rattle.protocol.specs.OneWorker.{table, Alike}
 
@@ -43,8 +43,6 @@ module _ {K : Type 0} (order : K → K → Ordering) (home : K → ℕ → ℕ) 
     pub same-cells : ((p : ℕ) → marks (w .cells) p ≡ false) → (p : ℕ) → contents (w .cells) p ≡ table (kind-over order home n) (g .effects) p
     pub each-once : ((p : ℕ) → marks (w .cells) p ≡ false) → (p q : ℕ) (x : K) → contents (w .cells) p ≡ holds x → contents (w .cells) q ≡ holds x → p ≡ q
     pub ascending : ((p : ℕ) → marks (w .cells) p ≡ false) → (p q : ℕ) (x y : K) → p < q → contents (w .cells) p ≡ holds x → contents (w .cells) q ≡ holds y → order x y ≡ before
-    -- a whole entry is over within so many steps: that they are limited never decides
-    pub whole-ends : (k : K) → Ended-stage (alone (kind-over order home n) (enough n) k (w .cells) Home .1)
 
   -- what is promised after every turn
   pub record Promise (n : ℕ) (w : World K) (g : Log K) : Type 0 where
@@ -52,6 +50,8 @@ module _ {K : Type 0} (order : K → K → Ordering) (home : K → ℕ → ℕ) 
     pub condition : 1 ≤ n → n ≤ 65536 → Condition n w g
     -- no record of an opened register names a cell that is none
     pub no-stray : (s : ℕ) → turned order home w (step s) .1 ≡ Err NoCell → ⊥
+    -- a whole entry's steps are over before they are enough: that they are limited decides nothing
+    pub whole-ends : 1 ≤ n → n ≤ 65536 → (k : K) → Ended-stage (alone (kind-over order home n) (enough n) k (w .cells) Home .1)
     -- a whole entry that a mark bars has changed nothing
     pub barred-same : (k : K) → turned order home w (enter k) .1 ≡ Err Barred → turned order home w (enter k) .0 ≡ w
 
