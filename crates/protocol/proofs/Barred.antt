@@ -14,7 +14,7 @@ use Rattle.protocol.specs.Step.{before, same, after, Walk, Here, Ended, Onward
 use Rattle.protocol.specs.Calls.{Ok, Err, WrongSize, Barred, World, bad-size, decision, ends-by, alone, enough, whole-answer, whole-entry-by, whole-entry}
 use Rattle.protocol.specs.Safety.{Ended-stage}
 use Rattle.protocol.proofs.Lawful.{Lawful}
-use Rattle.protocol.proofs.Lists.{marks-elsewhere, contents-mark}
+use Rattle.protocol.proofs.Places.{marks-elsewhere, contents-mark}
 use Rattle.protocol.proofs.Ends.{left-over, Wide, alone-ends}
 use Rattle.protocol.proofs.Kept.{by-check}
 

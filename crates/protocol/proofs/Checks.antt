@@ -10,13 +10,14 @@ use Rattle.protocol.specs.Cells.{Content, empty, holds, cell, is-occupied, upd
 use Rattle.protocol.specs.Stages.{Found, Full, Leftward, Rightward, Stage, Home, SecondMark, GiveBack, Check, Shift, ReleaseLeft}
 use Rattle.protocol.specs.Step.{Ordering, before, same, after, Ended, Onward, Versus, none, is, is-after, walk-at, goes-to, give-up, at-second, absent, at-check, versus, decide}
 use Rattle.protocol.specs.OneWorker.{is-greater, higher}
-use Rattle.protocol.proofs.Lawful.{Lawful}
-use Rattle.protocol.proofs.Basics.{not-both, holds-occ, order-refl, order-back, versus-is, versus-holds}
+use Rattle.protocol.proofs.Lawful.{Lawful, order-refl, order-back, versus-is, versus-holds, versus-none, versus-same, versus-occ}
+use Rattle.protocol.proofs.Updates.{not-both, holds-occ, occ-none}
 use Rattle.protocol.proofs.Sorted.{Sorted, home-left, home-right}
 use Rattle.protocol.proofs.Worker.{worker-full}
-use Rattle.protocol.proofs.Inv.{Owner, by, In-shift, by-inj, Region, Checking, Good, Core, still, own, marked-by, marking}
-use Rattle.protocol.proofs.Fence.{hold-one, good-at, Fence, around, outside, clear, apart-by}
-use Rattle.protocol.proofs.Easy.{off-edge, two-at-r, two-off-r, two-edge-r, cell-parts, no-cell, occ-none, versus-none, versus-same, versus-occ, Done, told, found-at, region-mark}
+use Rattle.protocol.proofs.Holding.{cell-parts, no-cell, off-edge, two-at-r, two-off-r, two-edge-r}
+use Rattle.protocol.proofs.Invariant.{Owner, by, In-shift, by-inj, Region, Checking, Good, Core, region-mark, marked-by, still, own, marking}
+use Rattle.protocol.proofs.Regions.{hold-one, apart-by, good-at, Fence, around, outside, clear}
+use Rattle.protocol.proofs.Steps.{Done, told, found-at}
 
 -- where the gap starts, in the one worker's words
 side-right : (N l r : ℕ) (b : Bool) → r ≤ N → (b ≡ true) ⊎ (l ≡ 0) → (leb r N && (b || eqb l 0)) ≡ true
@@ -65,15 +66,15 @@ module _ {K : Type 0} {N : ℕ} (κ : Lawful K N) {T : ℕ → Content K} {M : �
   half-outside : (t l r x : ℕ) → s ≢ t → Half l r → O x ≡ by t → 0 < x → x ≤ N → l ≤ x → x ≤ r → ⊥
   half-outside t l r x n f o a b lx xr =
       ⊎-elim (λ (e : l ≡ x). n (by-inj (ap O (sym e) ∙ f .own-l (omega arith)) o))
-        (λ y. ⊎-elim (λ (e : r ≡ x). both-ways (M x) (ap M (sym e) ∙ f .um (omega arith)) (marked-by κ c t x t o))
-          (λ z. both-ways (M x) (f .region .solid x (omega arith) (omega arith) .0) (marked-by κ c t x t o))
+        (λ y. ⊎-elim (λ (e : r ≡ x). both-ways (M x) (ap M (sym e) ∙ f .um (omega arith)) (marked-by κ c x t o))
+          (λ z. both-ways (M x) (f .region .solid x (omega arith) (omega arith) .0) (marked-by κ c x t o))
           (cases-eq r x))
         (cases-eq l x)
 
   half-apart : (t l r l′ r′ p : ℕ) → s ≢ t → Half l r → Fence κ c t l′ r′ → (0 < l′) ⊎ (r′ ≤ N) → l ≤ p → p ≤ r → l′ ≤ p → p ≤ r′ → ⊥
   half-apart t l r l′ r′ p n f g d a b a′ b′ =
       let lh = f .region .l-h in let hr = f .region .h-r in let hN = κ .place-high (ky s) in let lh′ = g .region .l-h in let hr′ = g .region .h-r in let hN′ = κ .place-high (ky t) in
-      apart-by κ c N p l r l′ r′
+      apart-by N p l r l′ r′
         (⊎-elim (λ (z : 0 < l). ⊎-elim (λ y. inr (inl y)) (λ y. ⊎-elim (λ x. inr (inr x)) (λ x. absurd (outside κ c s t l′ r′ l n g (f .own-l z) z (omega arith) y x)) (cases-lt r′ l)) (cases-lt l l′)) (λ z. inl (omega arith)) (cases-lt 0 l))
         (⊎-elim inl (λ z. ⊎-elim (λ y. inr (inl y)) (λ y. ⊎-elim (λ x. inr (inr x)) (λ x. absurd (clear κ c t l′ r′ r g (f .em z) (f .um z) (omega arith) z y x)) (cases-lt r′ r)) (cases-lt r l′)) (cases-lt N r))
         (⊎-elim (λ (z : 0 < l′). ⊎-elim (λ y. inr (inl y)) (λ y. ⊎-elim (λ x. inr (inr x)) (λ x. absurd (half-outside t l r l′ n f (g .own-l z) z (omega arith) y x)) (cases-lt r l′)) (cases-lt l′ l)) (λ z. inl (omega arith)) (cases-lt 0 l′))
@@ -114,7 +115,7 @@ module _ {K : Type 0} {N : ℕ} (κ : Lawful K N) {T : ℕ → Content K} {M : �
       go true false true x m z = give (cell N l) refl
       go true false false x m z =
           let em = occ-none (T r) z in
-          (marking κ c s (SecondMark l r) (Check l r h) r e m em (λ q n. two-off-r N l r q n) (two-at-r N l r x) (λ q i. i) (checking (updated M r true) (region-mark κ c s r em (g .0)) em (agreed (λ y. em) (λ y. m))), tt)
+          (marking κ c s (SecondMark l r) (Check l r h) r e m em (λ q n. two-off-r N l r q n) (two-at-r N l r x) (λ q i. i) (checking (updated M r true) (region-mark κ r em (g .0)) em (agreed (λ y. em) (λ y. m))), tt)
 
   pub check-step : (l r p : ℕ) → st s ≡ Check l r p → Done κ c s (decide (κ .kind) (ky s) (Check l r p) T M)
   check-step l r p e = go (versus (κ .kind) k (T p)) refl

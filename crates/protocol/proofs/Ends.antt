@@ -14,12 +14,11 @@ use Rattle.protocol.specs.Stages.{Answer, Inserted, Direction, Leftward, Right
 use Rattle.protocol.specs.Step.{before, same, after, Walk, Here, Ended, Onward, Versus, none, is, is-after, walk-at, beside, copy-due, at-home, at-look, at-left, at-right, at-first, give-up, at-second, absent, at-check, copied, release, versus, at-shift, decide}
 use Rattle.protocol.specs.Calls.{decision, ends-by, alone}
 use Rattle.protocol.specs.Safety.{Ended-stage}
-use Rattle.protocol.proofs.Lawful.{Lawful}
-use Rattle.protocol.proofs.Basics.{not-both, holds-occ}
+use Rattle.protocol.proofs.Lawful.{Lawful, versus-occ}
+use Rattle.protocol.proofs.Updates.{holds-occ}
 use Rattle.protocol.proofs.Sorted.{inside}
 use Rattle.protocol.proofs.Standings.{Told, stage-is}
-use Rattle.protocol.proofs.Lists.{length-after, contents-past}
-use Rattle.protocol.proofs.Easy.{versus-occ}
+use Rattle.protocol.proofs.Places.{length-after, contents-inside}
 
 -- how far a walk from home has yet to go at p
 unfoldable pub dist : ℕ → ℕ → ℕ → ℕ
@@ -36,9 +35,6 @@ dist-right N h p lt = cond-false (ltb p h) p (cond (ltb h p) (suc N - p) (N + 2)
 dist-home : (N h p : ℕ) → h ≡ p → dist N h p ≡ N + 2
 unfolding dist
 dist-home N h p e = cond-false (ltb p h) p (cond (ltb h p) (suc N - p) (N + 2)) (le-ltb p h (omega arith)) ∙ cond-false (ltb h p) (suc N - p) (N + 2) (le-ltb h p (omega arith))
-
-dist-most : (N h p : ℕ) → h ≤ N → dist N h p ≤ N + 2
-dist-most N h p hN = ⊎-elim (λ (a : p < h). let e = dist-left N h p a in omega arith) (λ a. ⊎-elim (λ (b : h < p). let e = dist-right N h p b in omega arith) (λ b. let e = dist-home N h p (omega arith) in omega arith) (cases-lt h p)) (cases-lt p h)
 
 -- steps left at most
 unfoldable pub left-over : ℕ → ℕ → Stage → ℕ
@@ -208,10 +204,6 @@ module _ {K : Type 0} {N : ℕ} (κ : Lawful K N) (k : K) where
     falls (ReleaseRight r a) b w = release-r-f r a (cell N r)
     falls (Answered a) b w = absurd (both-ways false refl b)
 
-  pub contents-inside : (cs : List (Cell K)) → length cs ≡ N → (p : ℕ) → is-occupied (contents cs p) ≡ true → (0 < p) × (p ≤ N)
-  contents-inside cs size zero o = absurd (both-ways false refl o)
-  contents-inside cs size (suc i) o = (omega arith, ⊎-elim (λ (a : N < suc i). absurd (not-both (contents-past cs (suc i) (omega arith)) o)) (λ a. a) (cases-lt N (suc i)))
-
   pub positive : (x : Stage) → busy x ≡ true → 0 < left-over N (κ .kind .place k) x
   unfolding left-over
   positive Idle b = absurd (both-ways false refl b)
@@ -240,7 +232,7 @@ module _ {K : Type 0} {N : ℕ} (κ : Lawful K N) (k : K) where
         (λ e. inl (ap (λ y. ends-by (standing y) (after-it, m .next) (alone (κ .kind) n k after-it (m .next)) .1) e ∙ e))
         (λ f. by-standing after-it (m .next) (alone (κ .kind) n k after-it (m .next)) (standing (m .next)) (stage-is (m .next)) refl (f .2)
           (λ u. alone-ends n after-it (m .next) (length-after (m .act) cs ∙ size) u (f .0) (omega arith)))
-        (falls (contents cs) (marks cs) (contents-inside cs size) x b w)
+        (falls (contents cs) (marks cs) (contents-inside cs N size) x b w)
     where
       by-standing : (cs : List (Cell K)) (x : Stage) (o : List (Cell K) × Stage) (y : Standing) → Told x y → standing x ≡ y → is-idle x ≡ false → (busy x ≡ true → Ended-stage (o .1)) → Ended-stage (ends-by y (cs, x) o .1)
       by-standing cs x o resting t e i h = absurd (both-ways (is-idle x) i (ap idle-by e))

@@ -17,15 +17,15 @@ use Rattle.protocol.specs.Step.{Effect, nothing, Decision, decide}
 use Rattle.protocol.specs.Calls.{Ok, Err, Refusal, WrongSize, OtherRegister, NoStation, NotIdle, NoEntry, NoCell, Progress, World, bad-size, bad-count, Out, refused-if, for-record, at-station, put-record, fresh, idled, leaving, beginning, collecting-at, collecting, withdrawing-at, withdrawing, stepped-record, stepping-by, decision, stepping}
 use Rattle.protocol.specs.Turns.{Turn, begin, step, collect, withdraw, Reply, Log, latest, watched, log-at, logged-over}
 use Rattle.protocol.proofs.Lawful.{Lawful}
-use Rattle.protocol.proofs.Basics.{updated-same, updated-at, updated-other, updated-all}
-use Rattle.protocol.proofs.Standings.{Told, stage-is, idle-is, settled-same, busy-not-idle, finish-is, holder-cell}
-use Rattle.protocol.proofs.Flow.{State, contents-after, marks-after, with-station, step-by, stepped}
-use Rattle.protocol.proofs.Lists.{length-after, contents-act, marks-act, nth-same, nth-other}
-use Rattle.protocol.proofs.Inv.{Owner, free, by, taken, is-by, is-by-self}
-use Rattle.protocol.proofs.Phases.{given, once}
+use Rattle.protocol.proofs.Updates.{updated-same, updated-at, updated-other, updated-all}
+use Rattle.protocol.proofs.Standings.{Told, stage-is, idle-is, settled-same, busy-not-idle, finish-is}
+use Rattle.protocol.proofs.Holding.{holder-cell}
+use Rattle.protocol.proofs.State.{State, contents-after, marks-after, with-station, step-by, stepped}
+use Rattle.protocol.proofs.Invariant.{Owner, free, by, taken, is-by, is-by-self}
+use Rattle.protocol.proofs.Effects.{given, once}
 use Rattle.protocol.proofs.Named.{named-settled, named-kept}
-use Rattle.protocol.proofs.States.{Inv, rest-inv, leaving-inv, begin-inv, step-inv}
-use Rattle.protocol.proofs.Ends.{contents-inside}
+use Rattle.protocol.proofs.Places.{length-after, contents-act, marks-act, contents-inside, nth-same, nth-other}
+use Rattle.protocol.proofs.Preserved.{Inv, rest-inv, leaving-inv, begin-inv, step-inv}
 
 edge-no-cell : (N q : ℕ) → (q ≡ 0) ⊎ (N < q) → cell N q ≡ true → ⊥
 edge-no-cell N q h e = grind arith
@@ -45,6 +45,22 @@ by-station P w s f x y = by-check P (bad-count (length (w .stations))) NoStation
     go empty e b = x
     go (holds u) e b = y b u e
 
+module _ {K : Type 0} (filler : K) where
+  abbrev pub spare : Station K
+  spare = record { key = filler; stage = Idle; withdrawn = false }
+
+  -- the record of a station; one that no call reaches is as good as idle
+  abbrev pub seat : Bool → Content (Station K) → Station K
+  seat true o = spare
+  seat false empty = spare
+  seat false (holds t) = t
+
+  abbrev pub seats : List (Station K) → ℕ → Station K
+  seats ts s = seat (bad-count (length ts)) (nth ts s)
+
+  abbrev pub state : World K → Log K → State K
+  state w g = record { contents = contents (w .cells); marked = marks (w .cells); station = seats (w .stations); effects = g .effects; unfinished = g .unfinished; held = g .held }
+
 module _ {K : Type 0} {N : ℕ} (κ : Lawful K N) where
   pub edge-unmarked : (v : State K) → Inv κ v → (q : ℕ) → (q ≡ 0) ⊎ (N < q) → v .marked q ≡ false
   edge-unmarked v i q h = go (i .owner q) refl
@@ -63,74 +79,60 @@ module _ {K : Type 0} {N : ℕ} (κ : Lawful K N) where
   unfolding stepped
   stepped-is v s u e = ap (λ t. step-by v s t (decide (κ .kind) (t .key) (t .stage) (v .contents) (v .marked)) (settled (t .withdrawn) (decide (κ .kind) (t .key) (t .stage) (v .contents) (v .marked) .next))) e
 
+  -- an act on the cells, by place: its effect on an edge would be none
+  pub acted : (cs : List (Cell K)) (v : State K) (s : ℕ) (u : Station K) (m : Decision K) (x : Stage) → length cs ≡ N → v .contents ≡ contents cs → v .marked ≡ marks cs → Inv κ (step-by v s u m x)
+      → ((p : ℕ) → contents (cells-after (m .act) cs) p ≡ contents-after (m .act) (v .contents) p) × ((p : ℕ) → marks (cells-after (m .act) cs) p ≡ marks-after (m .act) (v .marked) p)
+  acted cs v s u m x size ec em i =
+      (λ p. contents-act (m .act) cs (λ q o. ap (λ T. contents-after (m .act) T q) (sym ec) ∙ ⊎-elim (λ (z : q ≡ 0). ap (contents-after (m .act) (v .contents)) z ∙ i .core .edge-low) (λ lt. i .core .edge-high q lt) (off q o)) p ∙ ap (λ T. contents-after (m .act) T p) (sym ec),
+       λ p. marks-act (m .act) cs (λ q o. ap (λ M. marks-after (m .act) M q) (sym em) ∙ edge-unmarked (step-by v s u m x) i q (off q o)) p ∙ ap (λ M. marks-after (m .act) M p) (sym em))
+    where
+      off : (q : ℕ) → (q ≡ 0) ⊎ (length cs < q) → (q ≡ 0) ⊎ (N < q)
+      off q = ⊎-elim inl (λ lt. inr (omega (arith, size)))
+
   module _ (filler : K) where
-    abbrev pub spare : Station K
-    spare = record { key = filler; stage = Idle; withdrawn = false }
-
-    -- the record of a station; one that no call reaches is as good as idle
-    abbrev pub seat : Bool → Content (Station K) → Station K
-    seat true o = spare
-    seat false empty = spare
-    seat false (holds t) = t
-
-    abbrev pub seats : List (Station K) → ℕ → Station K
-    seats ts s = seat (bad-count (length ts)) (nth ts s)
-
-    abbrev pub state : World K → Log K → State K
-    state w g = record { contents = contents (w .cells); marked = marks (w .cells); station = seats (w .stations); effects = g .effects; unfinished = g .unfinished; held = g .held }
-
     pub record Kept (w : World K) (g : Log K) : Type 0 where
-      pub inv : Inv κ (state w g)
+      pub inv : Inv κ (state filler w g)
       pub size : length (w .cells) ≡ N
-      pub answers : (s : ℕ) → is-idle (seats (w .stations) s .stage) ≡ false → g .answer s ≡ given (seats (w .stations) s .stage)
-      pub named : (s : ℕ) → names-cells N (seats (w .stations) s .stage) ≡ true
+      pub answers : (s : ℕ) → is-idle (seats filler (w .stations) s .stage) ≡ false → g .answer s ≡ given (seats filler (w .stations) s .stage)
+      pub named : (s : ℕ) → names-cells N (seats filler (w .stations) s .stage) ≡ true
 
-    -- an act on the cells, by place: its effect on an edge would be none
-    pub acted : (cs : List (Cell K)) (v : State K) (s : ℕ) (u : Station K) (m : Decision K) (x : Stage) → length cs ≡ N → v .contents ≡ contents cs → v .marked ≡ marks cs → Inv κ (step-by v s u m x)
-        → ((p : ℕ) → contents (cells-after (m .act) cs) p ≡ contents-after (m .act) (v .contents) p) × ((p : ℕ) → marks (cells-after (m .act) cs) p ≡ marks-after (m .act) (v .marked) p)
-    acted cs v s u m x size ec em i =
-        (λ p. contents-act (m .act) cs (λ q o. ap (λ T. contents-after (m .act) T q) (sym ec) ∙ ⊎-elim (λ (z : q ≡ 0). ap (contents-after (m .act) (v .contents)) z ∙ i .core .edge-low) (λ lt. i .core .edge-high q lt) (off q o)) p ∙ ap (λ T. contents-after (m .act) T p) (sym ec),
-         λ p. marks-act (m .act) cs (λ q o. ap (λ M. marks-after (m .act) M q) (sym em) ∙ edge-unmarked (step-by v s u m x) i q (off q o)) p ∙ ap (λ M. marks-after (m .act) M p) (sym em))
-      where
-        off : (q : ℕ) → (q ≡ 0) ⊎ (length cs < q) → (q ≡ 0) ⊎ (N < q)
-        off q = ⊎-elim inl (λ lt. inr (omega (arith, size)))
+    -- the turn t, with outcome o, keeps the invariant
+    unfoldable pub Goal : World K → Log K → (t : Turn K) → Out K (Reply t) → Type 0
+    Goal w g t o = Kept (o .0) (logged-over (κ .kind) w t o g)
 
     module _ (w : World K) (g : Log K) (f : Kept w g) where
-      unfoldable pub Goal : (t : Turn K) → Out K (Reply t) → Type 0
-      Goal t o = Kept (o .0) (logged-over (κ .kind) w t o g)
-
       module _ (s : ℕ) where
         module _ (b : bad-count (length (w .stations)) ≡ false) (u : Station K) (e : nth (w .stations) s ≡ holds u) where
-          seat-is : seats (w .stations) s ≡ u
-          seat-is = ap (λ x. seat x (nth (w .stations) s)) b ∙ ap (seat false) e
+          seat-is : seats filler (w .stations) s ≡ u
+          seat-is = ap (λ x. seat filler x (nth (w .stations) s)) b ∙ ap (seat filler false) e
 
-          seats-set : (t : Station K) (r : ℕ) → seats (set (w .stations) s t) r ≡ updated (seats (w .stations)) s t r
+          seats-set : (t : Station K) (r : ℕ) → seats filler (set (w .stations) s t) r ≡ updated (seats filler (w .stations)) s t r
           seats-set t r =
-              ap (λ n. seat (bad-count n) (nth (set (w .stations) s t) r)) (length-set (w .stations) s t)
+              ap (λ n. seat filler (bad-count n) (nth (set (w .stations) s t) r)) (length-set (w .stations) s t)
               ∙ ⊎-elim
-                (λ (z : s ≡ r). ap (λ x. seat x (nth (set (w .stations) s t) r)) b ∙ ap (λ j. seat false (nth (set (w .stations) s t) j)) (sym z) ∙ ap (seat false) (nth-same (w .stations) s t u e) ∙ sym (updated-at (seats (w .stations)) s r t z))
-                (λ n. ap (seat (bad-count (length (w .stations)))) (nth-other (w .stations) s t r n) ∙ sym (updated-other (seats (w .stations)) s r t n))
+                (λ (z : s ≡ r). ap (λ x. seat filler x (nth (set (w .stations) s t) r)) b ∙ ap (λ j. seat filler false (nth (set (w .stations) s t) j)) (sym z) ∙ ap (seat filler false) (nth-same (w .stations) s t u e) ∙ sym (updated-at (seats filler (w .stations)) s r t z))
+                (λ n. ap (seat filler (bad-count (length (w .stations)))) (nth-other (w .stations) s t r n) ∙ sym (updated-other (seats filler (w .stations)) s r t n))
                 (cases-eq s r)
 
           -- what holds of the new record and of the others holds of all
-          seated-all : (P : ℕ → Station K → Type 0) (t : Station K) → P s t → ((r : ℕ) → s ≢ r → P r (seats (w .stations) r)) → (r : ℕ) → P r (seats (set (w .stations) s t) r)
-          seated-all P t here there r = subst (P r) (sym (seats-set t r)) (updated-all P (seats (w .stations)) s t here there r)
+          seated-all : (P : ℕ → Station K → Type 0) (t : Station K) → P s t → ((r : ℕ) → s ≢ r → P r (seats filler (w .stations) r)) → (r : ℕ) → P r (seats filler (set (w .stations) s t) r)
+          seated-all P t here there r = subst (P r) (sym (seats-set t r)) (updated-all P (seats filler (w .stations)) s t here there r)
 
           -- a turn that writes the record of s alone
-          seated-kept : (t : Station K) (x : Bool) (un : ℕ → Bool) (an : ℕ → Effect) → Inv κ (with-station (state w g) s t x) → ((r : ℕ) → un r ≡ updated (g .unfinished) s x r)
+          seated-kept : (t : Station K) (x : Bool) (un : ℕ → Bool) (an : ℕ → Effect) → Inv κ (with-station (state filler w g) s t x) → ((r : ℕ) → un r ≡ updated (g .unfinished) s x r)
               → (is-idle (t .stage) ≡ false → an s ≡ given (t .stage)) → ((r : ℕ) → s ≢ r → an r ≡ g .answer r) → names-cells N (t .stage) ≡ true
               → Kept (put-record w s t) (record { effects = g .effects; unfinished = un; held = g .held; answer = an })
           seated-kept t x un an i eu here there nm = record {
-            inv = inv-ext (with-station (state w g) s t x) (state (put-record w s t) (record { effects = g .effects; unfinished = un; held = g .held; answer = an })) (λ p. refl) (λ p. refl) (seats-set t) refl eu (λ r p. refl) i;
+            inv = inv-ext (with-station (state filler w g) s t x) (state filler (put-record w s t) (record { effects = g .effects; unfinished = un; held = g .held; answer = an })) (λ p. refl) (λ p. refl) (seats-set t) refl eu (λ r p. refl) i;
             size = f .size;
             answers = seated-all (λ r y. is-idle (y .stage) ≡ false → an r ≡ given (y .stage)) t here (λ r n i. there r n ∙ f .answers r i);
             named = seated-all (λ r y. names-cells N (y .stage) ≡ true) t nm (λ r n. f .named r);
           }
 
-          begin-kept : (k : K) → not (is-idle (u .stage)) ≡ false → Goal (begin s k) (put-record w s (fresh k), Ok (w .number, s))
+          begin-kept : (k : K) → not (is-idle (u .stage)) ≡ false → Goal w g (begin s k) (put-record w s (fresh k), Ok (w .number, s))
           unfolding Goal
           begin-kept k h = seated-kept (fresh k) true (updated (g .unfinished) s true) (updated (g .answer) s nothing)
-              (begin-inv κ (state w g) (f .inv) s k (ap (λ x. x .stage) seat-is ∙ idle-is (u .stage) h)) (λ r. refl) (λ _. updated-same (g .answer) s nothing) (λ r n. updated-other (g .answer) s r nothing n) refl
+              (begin-inv κ (state filler w g) (f .inv) s k (ap (λ x. x .stage) seat-is ∙ idle-is (u .stage) h)) (λ r. refl) (λ _. updated-same (g .answer) s nothing) (λ r n. updated-other (g .answer) s r nothing n) refl
 
           open-unfinished : g .unfinished s ≡ busy (u .stage)
           open-unfinished = f .inv .busy-is s ∙ ap (λ x. busy (x .stage)) seat-is
@@ -141,24 +143,24 @@ module _ {K : Type 0} {N : ℕ} (κ : Lawful K N) where
           named-is : names-cells N (u .stage) ≡ true
           named-is = ap (λ x. names-cells N (x .stage)) (sym seat-is) ∙ f .named s
 
-          collect-kept : (n : ℕ) (y : Standing) → Told (u .stage) y → Goal (collect n s) (collecting-at w s u y)
+          collect-kept : (n : ℕ) (y : Standing) → Told (u .stage) y → Goal w g (collect n s) (collecting-at w s u y)
           unfolding Goal
           collect-kept n resting z = f
           collect-kept n homing z = f
           collect-kept n under-way z = f
           collect-kept n (done a) z = seated-kept (idled u) false (g .unfinished) (g .answer)
-              (subst (λ y. Inv κ (with-station (state w g) s (idled y) false)) seat-is (rest-inv κ (state w g) (f .inv) s (Answered a) (ap (λ y. y .stage) seat-is ∙ z) refl))
+              (subst (λ y. Inv κ (with-station (state filler w g) s (idled y) false)) seat-is (rest-inv κ (state filler w g) (f .inv) s (Answered a) (ap (λ y. y .stage) seat-is ∙ z) refl))
               (λ r. ⊎-elim (λ (q : s ≡ r). ap (g .unfinished) (sym q) ∙ open-unfinished ∙ ap busy z ∙ sym (updated-at (g .unfinished) s r false q)) (λ m. sym (updated-other (g .unfinished) s r false m)) (cases-eq s r))
               (λ h. absurd (both-ways true h refl)) (λ r m. refl) refl
 
-          withdraw-kept : (n : ℕ) (x : Bool) → holds-mark N (u .stage) ≡ x → Goal (withdraw n s) (withdrawing-at w s u x)
+          withdraw-kept : (n : ℕ) (x : Bool) → holds-mark N (u .stage) ≡ x → Goal w g (withdraw n s) (withdrawing-at w s u x)
           unfolding Goal
           withdraw-kept n true z = seated-kept (leaving u) (g .unfinished s) (updated (g .unfinished) s (g .unfinished s)) (g .answer)
-              (subst (λ y. Inv κ (with-station (state w g) s (leaving y) (g .unfinished s))) seat-is (leaving-inv κ (state w g) (f .inv) s)) (λ r. refl) answer-is (λ r m. refl) named-is
+              (subst (λ y. Inv κ (with-station (state filler w g) s (leaving y) (g .unfinished s))) seat-is (leaving-inv κ (state filler w g) (f .inv) s)) (λ r. refl) answer-is (λ r m. refl) named-is
           withdraw-kept n false z = seated-kept (idled u) false (updated (g .unfinished) s false) (g .answer)
-              (subst (λ y. Inv κ (with-station (state w g) s (idled y) false)) seat-is (rest-inv κ (state w g) (f .inv) s (u .stage) (ap (λ y. y .stage) seat-is) z)) (λ r. refl) (λ i. absurd (both-ways true i refl)) (λ r m. refl) refl
+              (subst (λ y. Inv κ (with-station (state filler w g) s (idled y) false)) seat-is (rest-inv κ (state filler w g) (f .inv) s (u .stage) (ap (λ y. y .stage) seat-is) z)) (λ r. refl) (λ i. absurd (both-ways true i refl)) (λ r m. refl) refl
 
-          step-kept : busy (u .stage) ≡ true → Goal (step s) (stepping-by w s u (decision (κ .kind) (w .cells) (u .key) (u .stage)))
+          step-kept : busy (u .stage) ≡ true → Goal w g (step s) (stepping-by w s u (decision (κ .kind) (w .cells) (u .key) (u .stage)))
           unfolding Goal
           step-kept h = subst (Kept v) (sym (ap (λ y. log-at (κ .kind) w s y o g) e)) kept
             where
@@ -172,13 +174,13 @@ module _ {K : Type 0} {N : ℕ} (κ : Lawful K N) where
               t = stepped-record u x
               v : World K
               v = o .0
-              after-it : Inv κ (step-by (state w g) s u m x)
-              after-it = subst (Inv κ) (stepped-is (state w g) s u seat-is) (step-inv κ (state w g) (f .inv) s)
+              after-it : Inv κ (step-by (state filler w g) s u m x)
+              after-it = subst (Inv κ) (stepped-is (state filler w g) s u seat-is) (step-inv κ (state filler w g) (f .inv) s)
               act-is : ((p : ℕ) → contents (v .cells) p ≡ contents-after (m .act) (contents (w .cells)) p) × ((p : ℕ) → marks (v .cells) p ≡ marks-after (m .act) (marks (w .cells)) p)
-              act-is = acted (w .cells) (state w g) s u m x (f .size) refl refl after-it
+              act-is = acted (w .cells) (state filler w g) s u m x (f .size) refl refl after-it
               kept : Kept v (log-at (κ .kind) w s (holds u) o g)
               kept = record {
-                inv = inv-ext (step-by (state w g) s u m x) (state v (log-at (κ .kind) w s (holds u) o g)) (act-is .0) (act-is .1) (seats-set t) refl
+                inv = inv-ext (step-by (state filler w g) s u m x) (state filler v (log-at (κ .kind) w s (holds u) o g)) (act-is .0) (act-is .1) (seats-set t) refl
                   (λ q. ap (λ y. updated (g .unfinished) s y q) (finish-is x (g .unfinished s) (open-unfinished ∙ h)))
                   (λ q p. ap (λ y. cond (eqb s q) (watched (marks (w .cells) p) y (g .held s p)) (g .held q p)) (act-is .1 p)) after-it;
                 size = length-after (m .act) (w .cells) ∙ f .size;
@@ -186,11 +188,11 @@ module _ {K : Type 0} {N : ℕ} (κ : Lawful K N) where
                   (λ i. updated-same (g .answer) s (latest (m .effect) (g .answer s)) ∙ ap (latest (m .effect)) (answer-is (busy-not-idle (u .stage) h)) ∙ once (κ .kind) (u .key) (u .stage) (contents (w .cells)) (marks (w .cells)) .1 ∙ ap given (sym (settled-same (u .withdrawn) (m .next) i)))
                   (λ r n i. updated-other (g .answer) s r (latest (m .effect) (g .answer s)) n ∙ f .answers r i);
                 named = seated-all (λ r y. names-cells N (y .stage) ≡ true) t
-                  (named-settled N (u .withdrawn) (m .next) (named-kept κ (u .key) (contents (w .cells)) (marks (w .cells)) (contents-inside κ (u .key) (w .cells) (f .size)) (u .stage) named-is)) (λ r n. f .named r);
+                  (named-settled N (u .withdrawn) (m .next) (named-kept κ (u .key) (contents (w .cells)) (marks (w .cells)) (contents-inside (w .cells) N (f .size)) (u .stage) named-is)) (λ r n. f .named r);
               }
 
         -- a refused step is not logged
-        step-refused : (e : Refusal) → Goal (step s) (w, Err e)
+        step-refused : (e : Refusal) → Goal w g (step s) (w, Err e)
         unfolding Goal
         step-refused e = go (nth (w .stations) s)
           where
@@ -198,36 +200,36 @@ module _ {K : Type 0} {N : ℕ} (κ : Lawful K N) where
             go empty = f
             go (holds t) = f
 
-        pub begun-kept : (k : K) → Goal (begin s k) (beginning N w s k)
+        pub begun-kept : (k : K) → Goal w g (begin s k) (beginning N w s k)
         unfolding beginning Goal
         begun-kept k =
-            by-check (Goal (begin s k)) (bad-size N) WrongSize w _ f (λ _.
-              by-station (Goal (begin s k)) w s _ f (λ b u e.
-                by-check (Goal (begin s k)) (not (is-idle (u .stage))) NotIdle w _ f (λ h. begin-kept b u e k h)))
+            by-check (Goal w g (begin s k)) (bad-size N) WrongSize w _ f (λ _.
+              by-station (Goal w g (begin s k)) w s _ f (λ b u e.
+                by-check (Goal w g (begin s k)) (not (is-idle (u .stage))) NotIdle w _ f (λ h. begin-kept b u e k h)))
 
-        pub stepping-kept : Goal (step s) (stepping (κ .kind) w s)
+        pub stepping-kept : Goal w g (step s) (stepping (κ .kind) w s)
         unfolding stepping
         stepping-kept =
-            by-check (Goal (step s)) (bad-size N) WrongSize w _ (step-refused WrongSize) (λ _.
-              by-station (Goal (step s)) w s _ (step-refused NoStation) (λ b u e.
-                by-check (Goal (step s)) (not (busy (u .stage))) NoEntry w _ (step-refused NoEntry) (λ h.
-                  by-check (Goal (step s)) (not (names-cells N (u .stage))) NoCell w _ (step-refused NoCell) (λ _. step-kept b u e (not-false (busy (u .stage)) h)))))
+            by-check (Goal w g (step s)) (bad-size N) WrongSize w _ (step-refused WrongSize) (λ _.
+              by-station (Goal w g (step s)) w s _ (step-refused NoStation) (λ b u e.
+                by-check (Goal w g (step s)) (not (busy (u .stage))) NoEntry w _ (step-refused NoEntry) (λ h.
+                  by-check (Goal w g (step s)) (not (names-cells N (u .stage))) NoCell w _ (step-refused NoCell) (λ _. step-kept b u e (not-false (busy (u .stage)) h)))))
 
-        pub collected-kept : (n : ℕ) → Goal (collect n s) (collecting N w n s)
+        pub collected-kept : (n : ℕ) → Goal w g (collect n s) (collecting N w n s)
         unfolding collecting Goal
         collected-kept n =
-            by-check (Goal (collect n s)) (bad-size N) WrongSize w _ f (λ _.
-              by-check (Goal (collect n s)) (not (eqb n (w .number))) OtherRegister w _ f (λ _.
-                by-station (Goal (collect n s)) w s _ f (λ b u e.
-                  by-check (Goal (collect n s)) (u .withdrawn) NoEntry w _ f (λ _. collect-kept b u e n (standing (u .stage)) (stage-is (u .stage))))))
+            by-check (Goal w g (collect n s)) (bad-size N) WrongSize w _ f (λ _.
+              by-check (Goal w g (collect n s)) (not (eqb n (w .number))) OtherRegister w _ f (λ _.
+                by-station (Goal w g (collect n s)) w s _ f (λ b u e.
+                  by-check (Goal w g (collect n s)) (u .withdrawn) NoEntry w _ f (λ _. collect-kept b u e n (standing (u .stage)) (stage-is (u .stage))))))
 
-        pub withdrawing-kept : (n : ℕ) → Goal (withdraw n s) (withdrawing N w n s)
+        pub withdrawing-kept : (n : ℕ) → Goal w g (withdraw n s) (withdrawing N w n s)
         unfolding withdrawing Goal
         withdrawing-kept n =
-            by-check (Goal (withdraw n s)) (bad-size N) WrongSize w _ f (λ _.
-              by-check (Goal (withdraw n s)) (not (eqb n (w .number))) OtherRegister w _ f (λ _.
-                by-station (Goal (withdraw n s)) w s _ f (λ b u e.
-                  by-check (Goal (withdraw n s)) (is-idle (u .stage) || u .withdrawn) NoEntry w _ f (λ _. withdraw-kept b u e n (holds-mark N (u .stage)) refl))))
+            by-check (Goal w g (withdraw n s)) (bad-size N) WrongSize w _ f (λ _.
+              by-check (Goal w g (withdraw n s)) (not (eqb n (w .number))) OtherRegister w _ f (λ _.
+                by-station (Goal w g (withdraw n s)) w s _ f (λ b u e.
+                  by-check (Goal w g (withdraw n s)) (is-idle (u .stage) || u .withdrawn) NoEntry w _ f (λ _. withdraw-kept b u e n (holds-mark N (u .stage)) refl))))
 
         -- no record names a cell that is none
         pub never-stray : stepping (κ .kind) w s .1 ≡ Err NoCell → ⊥

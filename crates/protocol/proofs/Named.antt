@@ -8,10 +8,10 @@ use Rattle.std.proofs.shelf.Tests.{lt-ltb, ltb-true, and-parts, and-from}
 use Rattle.protocol.specs.Cells.{Content, empty, holds, cell, is-occupied}
 use Rattle.protocol.specs.Stages.{Direction, Leftward, Rightward, Stage, Idle, Home, Look, Left, Right, FirstMark, SecondMark, GiveBack, Check, Shift, ReleaseLeft, ReleaseRight, Answered, Standing, resting, homing, under-way, done, standing, settled-by, settled, is-place, names-cells}
 use Rattle.protocol.specs.Step.{before, same, after, Walk, Here, Ended, Onward, Versus, none, is, is-after, walk-at, beside, copy-due, gap-after, at-home, at-look, at-left, at-right, at-first, give-up, at-second, absent, at-check, copied, release, versus, at-shift, decide}
-use Rattle.protocol.proofs.Lawful.{Lawful}
-use Rattle.protocol.proofs.Basics.{holds-occ}
+use Rattle.protocol.proofs.Lawful.{Lawful, versus-occ}
+use Rattle.protocol.proofs.Updates.{holds-occ}
 use Rattle.protocol.proofs.Sorted.{inside}
-use Rattle.protocol.proofs.Easy.{cell-parts, versus-occ}
+use Rattle.protocol.proofs.Holding.{cell-parts}
 
 module _ (N : ℕ) where
   one : (p : ℕ) → p < N + 2 → is-place N p ≡ true

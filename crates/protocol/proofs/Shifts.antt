@@ -9,14 +9,14 @@ use Rattle.protocol.specs.Cells.{Content, empty, holds, Write, is-occupied, up
 use Rattle.protocol.specs.Stages.{Inserted, Leftward, Rightward, Stage, Shift, ReleaseLeft}
 use Rattle.protocol.specs.Step.{Ordering, before, same, after, nothing, took, is, copy-due, decided, copied, versus, at-shift, decide}
 use Rattle.protocol.specs.OneWorker.{is-less, is-greater, lower, higher, slide-left, slide-right, from-side, one-worker}
-use Rattle.protocol.proofs.Lawful.{Lawful}
-use Rattle.protocol.proofs.Basics.{updated-at, updated-other, not-both, holds-occ, order-turn, by-place, versus-is}
-use Rattle.protocol.proofs.Sorted.{Sorted, home-left, home-right, More, holds-inj, more-sorted}
+use Rattle.protocol.proofs.Lawful.{Lawful, order-turn, by-place, versus-is, versus-occ}
+use Rattle.protocol.proofs.Updates.{updated-at, updated-other, not-both, holds-occ, holds-inj}
+use Rattle.protocol.proofs.Sorted.{Sorted, home-left, home-right, More, more-sorted}
 use Rattle.protocol.proofs.Worker.{Slid-up, Slid-down, is-higher, is-lower, slid-up, slid-down, worker-gap}
-use Rattle.protocol.proofs.Standings.{holder}
-use Rattle.protocol.proofs.Inv.{Owner, Keeps, answer-new, Solid, Shifting-left, Shifting-right, Core, region-stable, make, agree-still}
-use Rattle.protocol.proofs.Fence.{fence-left, fence-right, keeps-off}
-use Rattle.protocol.proofs.Easy.{versus-occ, Done}
+use Rattle.protocol.proofs.Holding.{holder}
+use Rattle.protocol.proofs.Invariant.{Owner, Keeps, Solid, answer-new, Shifting-left, Shifting-right, Core, region-stable, make, agree-still}
+use Rattle.protocol.proofs.Regions.{fence-left, fence-right, keeps-off}
+use Rattle.protocol.proofs.Steps.{Done}
 
 -- a key between two empty places with its home has itself its place there
 pub between-only : {K : Type 0} {N : ℕ} (κ : Lawful K N) {S : ℕ → Content K} (ok : Sorted κ S) (k : K) (l r q : ℕ) → S l ≡ empty → S r ≡ empty → l < κ .kind .place k → κ .kind .place k < r → S q ≡ holds k → (l < q) × (q < r)
@@ -45,7 +45,7 @@ module _ {K : Type 0} {N : ℕ} (κ : Lawful K N) {T : ℕ → Content K} {M : �
         oc = versus-occ κ (ky s) (T u) after v
         inner : l < u
         inner = ⊎-elim (λ (a : l ≡ u). absurd (not-both (ap S (sym a) ∙ d .el) (ap is-occupied s-pred ∙ oc))) (λ n. omega arith) (cases-eq l u)
-        so : (p : ℕ) → Solid κ T M p → Solid κ T′ M p
+        so : (p : ℕ) → Solid T M p → Solid T′ M p
         so p z = (z .0, ⊎-elim (λ (y : (suc u) ≡ p). ap is-occupied (here p y) ∙ oc) (λ n. ap is-occupied (other p n) ∙ z .1) (cases-eq (suc u) p))
         core : Core κ T′ M O ky (updated st s (Shift Leftward l r (pred u))) S
         core = make κ c s T′ M O S (Shift Leftward l r (pred u))
@@ -53,7 +53,7 @@ module _ {K : Type 0} {N : ℕ} (κ : Lawful K N) {T : ℕ → Content K} {M : �
           (λ p. ap (λ y. holder N y p) (sym e) ∙ c .owned s p) (λ t p n. refl) (c .marks) so
           (λ t p n z. (⊎-elim (λ (y : (suc u) ≡ p). absurd (off-left t p n z (omega arith) (omega arith))) (λ n′. other p n′) (cases-eq (suc u) p), refl))
           (subst (λ i. Shifting-left κ T′ M S (ky s) l r i) (let z : u ≡ suc (pred u) = omega (arith, inner) in z) (record {
-            region = region-stable κ T T′ M M S S so (d .region);
+            region = region-stable κ T T′ M M so (d .region);
             cell-r = d .cell-r;
             l-g = inner;
             g-r = omega arith;
@@ -113,7 +113,7 @@ module _ {K : Type 0} {N : ℕ} (κ : Lawful K N) {T : ℕ → Content K} {M : �
           grown = λ q o. ⊎-elim (λ (a : q < (suc u)). ap is-occupied (under q a) ∙ o) (λ a. ⊎-elim (λ (b : r < q). ap is-occupied (sl .above q b) ∙ o) (λ b. full-s q (omega arith) b) (cases-lt r q)) (cases-lt q (suc u));
           below = λ p x lt z. lesser p x lt (sym (under p lt) ∙ z);
           above = λ p x lt z. ⊎-elim (λ (b : r < p). let y = home-right κ (c .sorted) r p x (d .er) b (sym (sl .above p b) ∙ z) in by-place κ k x (omega arith))
-            (λ b. order-turn κ x k (let y = versus-is κ k (S (pred p)) after (d .afters (pred p) (omega arith) (omega arith)) in ap (λ i. κ .kind .order i k) (holds-inj κ (sym (went p lt b) ∙ z) (y .1)) ∙ y .2)) (cases-lt r p);
+            (λ b. order-turn κ x k (let y = versus-is κ k (S (pred p)) after (d .afters (pred p) (omega arith) (omega arith)) in ap (λ i. κ .kind .order i k) (holds-inj (sym (went p lt b) ∙ z) (y .1)) ∙ y .2)) (cases-lt r p);
           rise = λ q a b. full-s q (omega arith) (omega arith);
           fall = λ q a b. full-s q (omega arith) (omega arith);
           low = under 0 (omega arith) ∙ c .sorted .low;
@@ -148,7 +148,7 @@ module _ {K : Type 0} {N : ℕ} (κ : Lawful K N) {T : ℕ → Content K} {M : �
           where
             by-order : (o : Ordering) → κ .kind .order y (ky s) ≡ o → Done κ c s (copied (ky s) Leftward l r u y (copy-due Leftward o))
             by-order before o = end-left (ap (higher (κ .kind) (ky s)) ty ∙ ap is-greater o) (λ p x lt z.
-                ⊎-elim (λ (a : u ≡ p). ap (λ i. κ .kind .order i (ky s)) (holds-inj κ z (ap S (sym a) ∙ s-pred ∙ ty)) ∙ o)
+                ⊎-elim (λ (a : u ≡ p). ap (λ i. κ .kind .order i (ky s)) (holds-inj z (ap S (sym a) ∙ s-pred ∙ ty)) ∙ o)
                   (λ n. κ .order-trans x y (ky s) (c .sorted .asc p u x y (omega arith) z (s-pred ∙ ty)) o) (cases-eq u p))
             by-order same o = absurd (d .absent u (omega arith) (omega arith) (s-pred ∙ ty ∙ ap holds (κ .order-same y (ky s) o)))
             by-order after o = copy-left y ty (ap (versus (κ .kind) (ky s)) ty ∙ ap is o)
@@ -173,7 +173,7 @@ module _ {K : Type 0} {N : ℕ} (κ : Lawful K N) {T : ℕ → Content K} {M : �
         oc = versus-occ κ (ky s) (T (suc (suc u))) before v
         inner : suc (suc u) < r
         inner = ⊎-elim (λ (a : r ≡ suc (suc u)). absurd (not-both (ap S (sym a) ∙ d .er) (ap is-occupied s-next ∙ oc))) (λ n. omega arith) (cases-eq r (suc (suc u)))
-        so : (p : ℕ) → Solid κ T M p → Solid κ T′ M p
+        so : (p : ℕ) → Solid T M p → Solid T′ M p
         so p z = (z .0, ⊎-elim (λ (y : (suc u) ≡ p). ap is-occupied (here p y) ∙ oc) (λ n. ap is-occupied (other p n) ∙ z .1) (cases-eq (suc u) p))
         core : Core κ T′ M O ky (updated st s (Shift Rightward l r (suc u))) S
         core = make κ c s T′ M O S (Shift Rightward l r (suc u))
@@ -181,7 +181,7 @@ module _ {K : Type 0} {N : ℕ} (κ : Lawful K N) {T : ℕ → Content K} {M : �
           (λ p. ap (λ y. holder N y p) (sym e) ∙ c .owned s p) (λ t p n. refl) (c .marks) so
           (λ t p n z. (⊎-elim (λ (y : (suc u) ≡ p). absurd (off-right t p n z (omega arith) (omega arith))) (λ n′. other p n′) (cases-eq (suc u) p), refl))
           (record {
-            region = region-stable κ T T′ M M S S so (d .region);
+            region = region-stable κ T T′ M M so (d .region);
             cell-l = d .cell-l;
             l-g = omega arith;
             g-r = inner;
@@ -234,7 +234,7 @@ module _ {K : Type 0} {N : ℕ} (κ : Lawful K N) {T : ℕ → Content K} {M : �
           near = λ p i x. omega arith;
           grown = λ q o. ⊎-elim (λ (a : (suc u) < q). ap is-occupied (sl .above q a) ∙ o) (λ a. ⊎-elim (λ (b : q < l). ap is-occupied (sl .under q b) ∙ o) (λ b. full-s q b (omega arith)) (cases-lt q l)) (cases-lt (suc u) q);
           below = λ p x lt z. ⊎-elim (λ (b : p < l). let y = home-left κ (c .sorted) l p x (d .el) b (sym (sl .under p b) ∙ z) in by-place κ x k (omega arith))
-            (λ b. let y = versus-is κ k (S (suc p)) before (d .befores (suc p) (omega arith) (omega arith)) in ap (λ i. κ .kind .order i k) (holds-inj κ (sym (sl .moved p b lt) ∙ z) (y .1)) ∙ y .2) (cases-lt p l);
+            (λ b. let y = versus-is κ k (S (suc p)) before (d .befores (suc p) (omega arith) (omega arith)) in ap (λ i. κ .kind .order i k) (holds-inj (sym (sl .moved p b lt) ∙ z) (y .1)) ∙ y .2) (cases-lt p l);
           above = λ p x lt z. upper p x lt (sym (sl .above p lt) ∙ z);
           rise = λ q a b. full-s q (omega arith) (omega arith);
           fall = λ q a b. full-s q (omega arith) (omega arith);
@@ -272,5 +272,5 @@ module _ {K : Type 0} {N : ℕ} (κ : Lawful K N) {T : ℕ → Content K} {M : �
             by-order before o = copy-right y ty (ap (versus (κ .kind) (ky s)) ty ∙ ap is o)
             by-order same o = absurd (d .absent (suc (suc u)) (omega arith) (omega arith) (s-next ∙ ty ∙ ap holds (κ .order-same y (ky s) o)))
             by-order after o = end-right (ap (lower (κ .kind) (ky s)) ty ∙ ap is-less o) (λ p x lt z.
-                ⊎-elim (λ (a : suc (suc u) ≡ p). ap (λ i. κ .kind .order (ky s) i) (holds-inj κ z (ap S (sym a) ∙ s-next ∙ ty)) ∙ order-turn κ y (ky s) o)
+                ⊎-elim (λ (a : suc (suc u) ≡ p). ap (λ i. κ .kind .order (ky s) i) (holds-inj z (ap S (sym a) ∙ s-next ∙ ty)) ∙ order-turn κ y (ky s) o)
                   (λ n. κ .order-trans (ky s) y x (order-turn κ y (ky s) o) (c .sorted .asc (suc (suc u)) p y x (omega arith) (s-next ∙ ty) z)) (cases-eq (suc (suc u)) p))

@@ -8,7 +8,7 @@ use Rattle.std.proofs.shelf.Tests.{cases-lt, cases-eq}
 use Rattle.protocol.specs.Cells.{Content, empty, holds, is-occupied}
 use Rattle.protocol.specs.Step.{before}
 use Rattle.protocol.proofs.Lawful.{Lawful}
-use Rattle.protocol.proofs.Basics.{not-both, holds-occ}
+use Rattle.protocol.proofs.Updates.{not-both, holds-occ, holds-inj}
 
 module _ {K : Type 0} {N : ℕ} (κ : Lawful K N) where
   pub record Sorted (S : ℕ → Content K) : Type 0 where
@@ -42,9 +42,6 @@ module _ {K : Type 0} {N : ℕ} (κ : Lawful K N) where
     pub fall : (q : ℕ) → κ .kind .place k ≤ q → q ≤ g → is-occupied (S′ q) ≡ true
     pub low : S′ 0 ≡ empty
     pub high : (p : ℕ) → N < p → S′ p ≡ empty
-
-  pub holds-inj : {x y : K} {c : Content K} → c ≡ holds x → c ≡ holds y → x ≡ y
-  holds-inj a b = cc
 
   module _ {S S′ : ℕ → Content K} {k : K} {g : ℕ} {R : ℕ → ℕ → Type 0} (ok : Sorted S) (m : More S S′ k g R) where
     key-at : (p : ℕ) (x : K) → p ≡ g → S′ p ≡ holds x → x ≡ k

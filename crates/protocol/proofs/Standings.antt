@@ -1,12 +1,8 @@
--- What a stage's standing says of the stage, and what a stage holds.
-use mathlib.Core.Path.{_≡_, refl, sym, ap}
-use mathlib.Core.Bool.{Bool, true, false, not, _&&_, _||_}
-use Prim.Native.Nat.{ℕ}
-use native.Mathlib.Omega.{arith}
-use lib.Dec.{eqb}
-use Rattle.std.proofs.shelf.Tests.{both-ways, and-parts}
-use Rattle.protocol.specs.Cells.{cell}
-use Rattle.protocol.specs.Stages.{Stage, Idle, Home, Look, Left, Right, FirstMark, SecondMark, GiveBack, Check, Shift, ReleaseLeft, ReleaseRight, Answered, Standing, resting, homing, under-way, done, standing, busy-by, busy, idle-by, is-idle, settled-by, settled, Held, none-held, one-held, both-held, held-by, some-cell}
+-- What a stage's standing says of the stage.
+use mathlib.Core.Path.{_≡_, refl, sym}
+use mathlib.Core.Bool.{Bool, true, false, not}
+use Rattle.std.proofs.shelf.Tests.{both-ways}
+use Rattle.protocol.specs.Stages.{Stage, Idle, Home, Look, Left, Right, FirstMark, SecondMark, GiveBack, Check, Shift, ReleaseLeft, ReleaseRight, Answered, Standing, resting, homing, under-way, done, standing, busy-by, busy, idle-by, is-idle, settled-by, settled}
 use Rattle.protocol.specs.Calls.{says-by, says}
 use Rattle.protocol.specs.Turns.{after-progress}
 
@@ -69,32 +65,3 @@ finish-is x old e = go (standing x)
     go homing = e
     go under-way = e
     go (done a) = refl
-
--- the places at which a stage holds a mark
-abbrev pub held-at : ℕ → Held → ℕ → Bool
-held-at N none-held q = false
-held-at N (one-held p) q = eqb q p && cell N q
-held-at N (both-held l r) q = (eqb q l || eqb q r) && cell N q
-
-abbrev pub holder : ℕ → Stage → ℕ → Bool
-holder N x q = held-at N (held-by x) q
-
-pub holder-busy : (N : ℕ) (x : Stage) (p : ℕ) → holder N x p ≡ true → busy x ≡ true
-holder-busy N x p h = go (standing x) (stage-is x)
-  where
-    go : (y : Standing) → Told x y → busy-by y ≡ true
-    go resting t = absurd (both-ways (holder N x p) (ap (λ z. holder N z p) t) h)
-    go homing t = refl
-    go under-way t = refl
-    go (done a) t = absurd (both-ways (holder N x p) (ap (λ z. holder N z p) t) h)
-
-pub holder-cell : (N : ℕ) (h : Held) (q : ℕ) → held-at N h q ≡ true → cell N q ≡ true
-holder-cell N none-held q e = absurd (both-ways false refl e)
-holder-cell N (one-held p) q e = and-parts (eqb q p) (cell N q) e .1
-holder-cell N (both-held l r) q e = and-parts (eqb q l || eqb q r) (cell N q) e .1
-
--- a stage that holds no mark holds none anywhere
-pub no-holder : (N : ℕ) (h : Held) → some-cell N h ≡ false → (p : ℕ) → false ≡ held-at N h p
-no-holder N none-held e p = refl
-no-holder N (one-held l) e p = grind arith
-no-holder N (both-held l r) e p = grind arith

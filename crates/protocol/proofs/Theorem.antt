@@ -20,29 +20,29 @@ use Rattle.protocol.specs.Turns.{Turn, begin, step, collect, withdraw, enter, 
 use Rattle.protocol.specs.OneWorker.{table, Alike}
 use Rattle.protocol.specs.Safety.{New-once, Promise, Safe-from, Safe}
 use Rattle.protocol.specs.Examples.{answers}
-use Rattle.protocol.proofs.Lawful.{Lawful, lawful}
-use Rattle.protocol.proofs.Basics.{order-refl}
-use Rattle.protocol.proofs.Standings.{Told, stage-is, holder, holder-busy}
-use Rattle.protocol.proofs.Flow.{State}
-use Rattle.protocol.proofs.Lists.{contents-blank, marks-blank, nth-map}
-use Rattle.protocol.proofs.Inv.{Owner, free, by, taken, is-by, is-by-self, is-by-true, by-inj, Good, marked-by}
-use Rattle.protocol.proofs.Fence.{around}
-use Rattle.protocol.proofs.Phases.{given}
-use Rattle.protocol.proofs.States.{Inv}
+use Rattle.protocol.proofs.Lawful.{Lawful, lawful, order-refl}
+use Rattle.protocol.proofs.Standings.{Told, stage-is}
+use Rattle.protocol.proofs.Holding.{holder, holder-busy}
+use Rattle.protocol.proofs.State.{State}
+use Rattle.protocol.proofs.Invariant.{Owner, free, by, taken, is-by, is-by-self, is-by-true, by-inj, Good, marked-by}
+use Rattle.protocol.proofs.Regions.{around}
+use Rattle.protocol.proofs.Effects.{given}
+use Rattle.protocol.proofs.Places.{contents-blank, marks-blank, nth-map}
+use Rattle.protocol.proofs.Barred.{whole-over, barred-unchanged}
+use Rattle.protocol.proofs.Preserved.{Inv}
 use Rattle.protocol.proofs.Kept.{by-check, by-station, seat, seats, state, Kept, Goal, begun-kept, stepping-kept, collected-kept, withdrawing-kept, never-stray}
 use Rattle.protocol.proofs.Whole.{entered-kept}
-use Rattle.protocol.proofs.Barred.{whole-over, barred-unchanged}
+
+clash : {K A : Type 0} {x : K} {c : Content K} → c ≡ empty → c ≡ holds x → A
+clash a b = let z : _≡_ {A = ℕ} 0 1 = cc in absurd (omega arith)
 
 module _ {K : Type 0} {N : ℕ} (κ : Lawful K N) (filler : K) where
-  turn-kept : (w : World K) (g : Log K) (f : Kept κ filler w g) (t : Turn K) → Goal κ filler w g f t (turned-over (κ .kind) w t)
+  turn-kept : (w : World K) (g : Log K) (f : Kept κ filler w g) (t : Turn K) → Goal κ filler w g t (turned-over (κ .kind) w t)
   turn-kept w g f (begin s k) = begun-kept κ filler w g f s k
   turn-kept w g f (step s) = stepping-kept κ filler w g f s
   turn-kept w g f (collect n s) = collected-kept κ filler w g f s n
   turn-kept w g f (withdraw n s) = withdrawing-kept κ filler w g f s n
   turn-kept w g f (enter k) = entered-kept κ filler w g f k
-
-  clash : {x : K} {A : Type 0} {c : Content K} → c ≡ empty → c ≡ holds x → A
-  clash a b = let z : _≡_ {A = ℕ} 0 1 = cc in absurd (omega arith)
 
   -- empty cells, no mark, every station idle, nothing logged
   blank-inv : (v : State K) → ((p : ℕ) → v .contents p ≡ empty) → ((p : ℕ) → v .marked p ≡ false) → ((s : ℕ) → v .station s .stage ≡ Idle) → v .effects ≡ [] → ((s : ℕ) → v .unfinished s ≡ false) → ((s p : ℕ) → v .held s p ≡ false) → Inv κ v
@@ -63,20 +63,20 @@ module _ {K : Type 0} {N : ℕ} (κ : Lawful K N) (filler : K) where
 
   opened-kept : (number : ℕ) (cs : List (Cell K)) (ts : List (Station K)) → length (map (blank filler) cs) ≡ N → Kept κ filler (opening-if false number cs ts filler) no-log
   opened-kept number cs ts size = record {
-    inv = blank-inv (state κ filler (opening-if false number cs ts filler) no-log) (contents-blank filler cs) (marks-blank filler cs) all-idle refl (λ s. refl) (λ s p. refl);
+    inv = blank-inv (state filler (opening-if false number cs ts filler) no-log) (contents-blank filler cs) (marks-blank filler cs) all-idle refl (λ s. refl) (λ s p. refl);
     size = size;
-    answers = λ s h. absurd (both-ways (is-idle (seats κ filler (idle-records ts) s .stage)) h (ap is-idle (all-idle s)));
+    answers = λ s h. absurd (both-ways (is-idle (seats filler (idle-records ts) s .stage)) h (ap is-idle (all-idle s)));
     named = λ s. ap (names-cells N) (all-idle s);
   }
     where
-      seat-idle : (b : Bool) (s : ℕ) (o : Content (Station K)) → nth (map idled ts) s ≡ o → seat κ filler b o .stage ≡ Idle
+      seat-idle : (b : Bool) (s : ℕ) (o : Content (Station K)) → nth (map idled ts) s ≡ o → seat filler b o .stage ≡ Idle
       seat-idle true s o e = refl
       seat-idle false s empty e = refl
       seat-idle false s (holds t) e = nth-map (λ x. x .stage ≡ Idle) idled (λ x. refl) ts s t e
-      by-count : (b : Bool) → bad-count (length ts) ≡ b → (s : ℕ) → seats κ filler (cond b ts (map idled ts)) s .stage ≡ Idle
-      by-count true e s = ap (λ b. seat κ filler b (nth ts s) .stage) e
+      by-count : (b : Bool) → bad-count (length ts) ≡ b → (s : ℕ) → seats filler (cond b ts (map idled ts)) s .stage ≡ Idle
+      by-count true e s = ap (λ b. seat filler b (nth ts s) .stage) e
       by-count false e s = seat-idle (bad-count (length (map idled ts))) s (nth (map idled ts) s) refl
-      all-idle : (s : ℕ) → seats κ filler (idle-records ts) s .stage ≡ Idle
+      all-idle : (s : ℕ) → seats filler (idle-records ts) s .stage ≡ Idle
       all-idle s = by-count (bad-count (length ts)) refl s
 
   -- what a collection gives is the answer of the entry last begun there
@@ -86,20 +86,20 @@ module _ {K : Type 0} {N : ℕ} (κ : Lawful K N) (filler : K) where
       by-check Gives (bad-size N) WrongSize w _ no-answer (λ _.
         by-check Gives (not (eqb n (w .number))) OtherRegister w _ no-answer (λ _.
           by-station Gives w s _ no-answer (λ b u e.
-            by-check Gives (u .withdrawn) NoEntry w _ no-answer (λ _. given-at u (ap (λ x. seat κ filler x (nth (w .stations) s)) b ∙ ap (seat κ filler false) e) (standing (u .stage)) (stage-is (u .stage))))))
+            by-check Gives (u .withdrawn) NoEntry w _ no-answer (λ _. given-at u (ap (λ x. seat filler x (nth (w .stations) s)) b ∙ ap (seat filler false) e) (standing (u .stage)) (stage-is (u .stage))))))
     where
       Gives : Out K Answer → Type 0
       Gives o = o .1 ≡ Ok a → g .answer s ≡ took a
       no-answer : {e : Refusal} → Err e ≡ Ok a → g .answer s ≡ took a
       no-answer z = let y : _≡_ {A = ℕ} 0 1 = cc in absurd (omega arith)
-      given-at : (u : Station K) → seats κ filler (w .stations) s ≡ u → (y : Standing) → Told (u .stage) y → Gives (collecting-at w s u y)
+      given-at : (u : Station K) → seats filler (w .stations) s ≡ u → (y : Standing) → Told (u .stage) y → Gives (collecting-at w s u y)
       given-at u e resting t z = no-answer z
       given-at u e homing t z = no-answer z
       given-at u e under-way t z = no-answer z
       given-at u e (done b) t z = let at = ap (λ x. x .stage) e ∙ t in f .answers s (ap is-idle at) ∙ ap given at ∙ ap took (let y : b ≡ a = cc in y)
 
   module _ (w : World K) (g : Log K) (f : Kept κ filler w g) where
-    abbrev i : Inv κ (state κ filler w g)
+    abbrev i : Inv κ (state filler w g)
     i = f .inv
 
     one-holder : (p : ℕ) → marks (w .cells) p ≡ true → (s : ℕ) × (g .held s p ≡ true) × (g .unfinished s ≡ true) × ((s′ : ℕ) → g .held s′ p ≡ true → s′ ≡ s)
@@ -109,7 +109,7 @@ module _ {K : Type 0} {N : ℕ} (κ : Lawful K N) (filler : K) where
         go free e = absurd (both-ways (marks (w .cells) p) (i .core .marks p ∙ ap taken e) m)
         go (by s) e =
             (s, i .held-is s p ∙ ap (is-by s) e ∙ is-by-self s,
-             i .busy-is s ∙ holder-busy N (seats κ filler (w .stations) s .stage) p (i .core .owned s p ∙ ap (is-by s) e ∙ is-by-self s),
+             i .busy-is s ∙ holder-busy N (seats filler (w .stations) s .stage) p (i .core .owned s p ∙ ap (is-by s) e ∙ is-by-self s),
              λ s′ h. by-inj (is-by-true s′ (i .owner p) (sym (i .held-is s′ p) ∙ h)) e)
 
     -- only a station that shifts leaves cells that differ from the one worker's, and it holds a mark
@@ -117,8 +117,8 @@ module _ {K : Type 0} {N : ℕ} (κ : Lawful K N) (filler : K) where
     still-is q p = ⊎-elim sym
         (λ h. let a = around κ (i .core) (h .0) p (h .1) in
               absurd (⊎-elim
-                (λ z. both-ways (marks (w .cells) (a .l)) (q (a .l)) (marked-by κ (i .core) (h .0) (a .l) (h .0) (a .fenced .own-l z)))
-                (λ z. both-ways (marks (w .cells) (a .r)) (q (a .r)) (marked-by κ (i .core) (h .0) (a .r) (h .0) (a .fenced .own-r z)))
+                (λ z. both-ways (marks (w .cells) (a .l)) (q (a .l)) (marked-by κ (i .core) (a .l) (h .0) (a .fenced .own-l z)))
+                (λ z. both-ways (marks (w .cells) (a .r)) (q (a .r)) (marked-by κ (i .core) (a .r) (h .0) (a .fenced .own-r z)))
                 (a .some-cell)))
         (i .core .agree p)
 
@@ -150,7 +150,7 @@ module _ {K : Type 0} {order : K → K → Ordering} {home : K → ℕ → ℕ} 
     new-once = f .inv .new-once;
     condition = λ _ _. record {
       held-once = one-holder κ filler w g f;
-      held-marked = λ s p h. marked-by κ (f .inv .core) s p s (is-by-true s (f .inv .owner p) (sym (f .inv .held-is s p) ∙ h));
+      held-marked = λ s p h. marked-by κ (f .inv .core) p s (is-by-true s (f .inv .owner p) (sym (f .inv .held-is s p) ∙ h));
       alike = f .inv .alike;
       collected = subst (λ m. (number s : ℕ) (a : Answer) → collecting m w number s .1 ≡ Ok a → g .answer s ≡ took a) (sym (f .size)) (collect-gives κ filler w g f);
       same-cells = still-is κ filler w g f;

@@ -17,14 +17,15 @@ use Rattle.protocol.specs.Calls.{WrongSize, World, bad-size, bad-count, idled,
 use Rattle.protocol.specs.Turns.{enter, Log, noted, watched, log-enter}
 use Rattle.protocol.specs.Examples.{answers}
 use Rattle.protocol.proofs.Lawful.{Lawful}
-use Rattle.protocol.proofs.Basics.{updated-same, updated-at, updated-other}
-use Rattle.protocol.proofs.Standings.{Told, stage-is, holder}
-use Rattle.protocol.proofs.Flow.{State, contents-after, marks-after, with-station, step-by}
-use Rattle.protocol.proofs.Lists.{length-after, nth-past}
-use Rattle.protocol.proofs.Phases.{given, once, noted-once}
-use Rattle.protocol.proofs.States.{updated-twice, Inv, rest-inv, rekey-inv, begin-inv, step-inv}
-use Rattle.protocol.proofs.Ends.{left-over, Wide, Falls, falls, contents-inside, positive}
-use Rattle.protocol.proofs.Kept.{by-check, inv-ext, stepped-is, spare, seat, seats, state, Kept, acted, Goal}
+use Rattle.protocol.proofs.Updates.{updated-same, updated-at, updated-other}
+use Rattle.protocol.proofs.Standings.{Told, stage-is}
+use Rattle.protocol.proofs.Holding.{holder}
+use Rattle.protocol.proofs.State.{State, contents-after, marks-after, with-station, step-by}
+use Rattle.protocol.proofs.Effects.{given, once, noted-once}
+use Rattle.protocol.proofs.Places.{length-after, contents-inside, nth-past}
+use Rattle.protocol.proofs.Ends.{left-over, Wide, Falls, falls, positive}
+use Rattle.protocol.proofs.Preserved.{updated-twice, Inv, rest-inv, rekey-inv, begin-inv, step-inv}
+use Rattle.protocol.proofs.Kept.{by-check, spare, seat, seats, state, inv-ext, stepped-is, acted, Kept, Goal}
 
 module _ {K : Type 0} {N : ℕ} (κ : Lawful K N) (filler : K) (w : World K) (g : Log K) (f : Kept κ filler w g) (k : K) where
   abbrev own-number : ℕ
@@ -37,7 +38,7 @@ module _ {K : Type 0} {N : ℕ} (κ : Lawful K N) (filler : K) (w : World K) (g 
   mid cs x hd = record {
     contents = contents cs;
     marked = marks cs;
-    station = updated (seats κ filler (w .stations)) own-number (fresh-at x);
+    station = updated (seats filler (w .stations)) own-number (fresh-at x);
     effects = noted k (given x) (g .effects);
     unfinished = updated (g .unfinished) own-number (busy x);
     held = hd;
@@ -50,21 +51,21 @@ module _ {K : Type 0} {N : ℕ} (κ : Lawful K N) (filler : K) (w : World K) (g 
     others : (s p : ℕ) → own-number ≢ s → hd s p ≡ g .held s p
     size : length cs ≡ N
 
-  own-spare : seats κ filler (w .stations) own-number ≡ spare κ filler
+  own-spare : seats filler (w .stations) own-number ≡ spare filler
   own-spare = go (bad-count (length (w .stations))) (nth (w .stations) own-number) (nth-past (w .stations) own-number (omega arith))
     where
-      go : (b : Bool) (o : Content (Station K)) → o ≡ empty → seat κ filler b o ≡ spare κ filler
+      go : (b : Bool) (o : Content (Station K)) → o ≡ empty → seat filler b o ≡ spare filler
       go true o e = refl
-      go false o e = ap (seat κ filler false) e
+      go false o e = ap (seat filler false) e
 
   mid-start : Mid (w .cells) Home
-  mid-start = record { hd = g .held; inv = begin-inv κ (state κ filler w g) (f .inv) own-number k (ap (λ x. x .stage) own-spare); others = λ s p n. refl; size = f .size }
+  mid-start = record { hd = g .held; inv = begin-inv κ (state filler w g) (f .inv) own-number k (ap (λ x. x .stage) own-spare); others = λ s p n. refl; size = f .size }
 
   mid-step : (cs : List (Cell K)) (x : Stage) → Mid cs x → Mid (cells-after (decision (κ .kind) cs k x .act) cs) (decision (κ .kind) cs k x .next)
   mid-step cs x d = record {
     hd = hd′;
     inv = inv-ext κ (step-by v own-number (fresh-at x) m (m .next)) (mid (cells-after (m .act) cs) (m .next) hd′) (act-is .0) (act-is .1)
-      (λ r. ap (λ z. z r) (sym (updated-twice (seats κ filler (w .stations)) own-number (fresh-at x) (fresh-at (m .next)))))
+      (λ r. ap (λ z. z r) (sym (updated-twice (seats filler (w .stations)) own-number (fresh-at x) (fresh-at (m .next)))))
       (sym (noted-once k (g .effects) (m .effect) (given x) (given (m .next)) (once (κ .kind) k x (contents cs) (marks cs))))
       (λ r. ap (λ z. z r) (sym (updated-twice (g .unfinished) own-number (busy x) (busy (m .next)))))
       (λ r p. refl) after-it;
@@ -79,9 +80,9 @@ module _ {K : Type 0} {N : ℕ} (κ : Lawful K N) (filler : K) (w : World K) (g 
       hd′ : ℕ → ℕ → Bool
       hd′ = λ s′ p. cond (eqb own-number s′) (watched (marks cs p) (marks-after (m .act) (marks cs) p) (d .hd own-number p)) (d .hd s′ p)
       after-it : Inv κ (step-by v own-number (fresh-at x) m (m .next))
-      after-it = subst (Inv κ) (stepped-is κ v own-number (fresh-at x) (updated-same (seats κ filler (w .stations)) own-number (fresh-at x))) (step-inv κ v (d .inv) own-number)
+      after-it = subst (Inv κ) (stepped-is κ v own-number (fresh-at x) (updated-same (seats filler (w .stations)) own-number (fresh-at x))) (step-inv κ v (d .inv) own-number)
       act-is : ((p : ℕ) → contents (cells-after (m .act) cs) p ≡ contents-after (m .act) (contents cs) p) × ((p : ℕ) → marks (cells-after (m .act) cs) p ≡ marks-after (m .act) (marks cs) p)
-      act-is = acted κ filler cs v own-number (fresh-at x) m (m .next) (d .size) refl refl after-it
+      act-is = acted κ cs v own-number (fresh-at x) m (m .next) (d .size) refl refl after-it
 
   idle-held : (v : State K) → Inv κ v → (s : ℕ) → v .station s .stage ≡ Idle → (p : ℕ) → v .held s p ≡ false
   idle-held v i s e p = i .held-is s p ∙ sym (i .core .owned s p) ∙ ap (λ x. holder N x p) e
@@ -95,11 +96,11 @@ module _ {K : Type 0} {N : ℕ} (κ : Lawful K N) (filler : K) (w : World K) (g 
   -- where the fresh station holds no mark it may be forgotten
   mid-end : (cs : List (Cell K)) (x : Stage) → Mid cs x → holds-mark N x ≡ false → Kept κ filler (entered-cells cs) (entered-log (given x))
   mid-end cs x d h = record {
-    inv = inv-ext κ v₂ (state κ filler (entered-cells cs) (entered-log (given x))) (λ p. refl) (λ p. refl)
-      (λ r. ⊎-elim (λ (z : own-number ≡ r). ap (seats κ filler (w .stations)) (sym z) ∙ own-spare ∙ sym (updated-at (v₁ .station) own-number r (spare κ filler) z)) (λ n. sym (updated-other (v₁ .station) own-number r (spare κ filler) n ∙ updated-other (v .station) own-number r (idled (v .station own-number)) n ∙ updated-other (seats κ filler (w .stations)) own-number r (fresh-at x) n)) (cases-eq own-number r))
+    inv = inv-ext κ v₂ (state filler (entered-cells cs) (entered-log (given x))) (λ p. refl) (λ p. refl)
+      (λ r. ⊎-elim (λ (z : own-number ≡ r). ap (seats filler (w .stations)) (sym z) ∙ own-spare ∙ sym (updated-at (v₁ .station) own-number r (spare filler) z)) (λ n. sym (updated-other (v₁ .station) own-number r (spare filler) n ∙ updated-other (v .station) own-number r (idled (v .station own-number)) n ∙ updated-other (seats filler (w .stations)) own-number r (fresh-at x) n)) (cases-eq own-number r))
       refl
       (λ r. ⊎-elim (λ (z : own-number ≡ r). ap (g .unfinished) (sym z) ∙ f .inv .busy-is own-number ∙ ap (λ y. busy (y .stage)) own-spare ∙ sym (updated-at (v₁ .unfinished) own-number r false z)) (λ n. sym (updated-other (v₁ .unfinished) own-number r false n ∙ updated-other (v .unfinished) own-number r false n ∙ updated-other (g .unfinished) own-number r (busy x) n)) (cases-eq own-number r))
-      (λ s p. ⊎-elim (λ (z : own-number ≡ s). ap (λ y. g .held y p) (sym z) ∙ idle-held (state κ filler w g) (f .inv) own-number (ap (λ y. y .stage) own-spare) p ∙ sym (ap (λ y. d .hd y p) (sym z) ∙ idle-held v₂ i₂ own-number (ap (λ y. y .stage) (updated-same (v₁ .station) own-number (spare κ filler))) p)) (λ n. sym (d .others s p n)) (cases-eq own-number s))
+      (λ s p. ⊎-elim (λ (z : own-number ≡ s). ap (λ y. g .held y p) (sym z) ∙ idle-held (state filler w g) (f .inv) own-number (ap (λ y. y .stage) own-spare) p ∙ sym (ap (λ y. d .hd y p) (sym z) ∙ idle-held v₂ i₂ own-number (ap (λ y. y .stage) (updated-same (v₁ .station) own-number (spare filler))) p)) (λ n. sym (d .others s p n)) (cases-eq own-number s))
       i₂;
     size = d .size;
     answers = f .answers;
@@ -111,9 +112,9 @@ module _ {K : Type 0} {N : ℕ} (κ : Lawful K N) (filler : K) (w : World K) (g 
       v₁ : State K
       v₁ = with-station v own-number (idled (v .station own-number)) false
       v₂ : State K
-      v₂ = with-station v₁ own-number (spare κ filler) false
+      v₂ = with-station v₁ own-number (spare filler) false
       i₁ : Inv κ v₁
-      i₁ = rest-inv κ v (d .inv) own-number x (ap (λ y. y .stage) (updated-same (seats κ filler (w .stations)) own-number (fresh-at x))) h
+      i₁ = rest-inv κ v (d .inv) own-number x (ap (λ y. y .stage) (updated-same (seats filler (w .stations)) own-number (fresh-at x))) h
       i₂ : Inv κ v₂
       i₂ = rekey-inv κ v₁ i₁ own-number filler (ap (λ y. y .stage) (updated-same (v .station) own-number (idled (v .station own-number))))
 
@@ -137,8 +138,8 @@ module _ {K : Type 0} {N : ℕ} (κ : Lawful K N) (filler : K) (w : World K) (g 
       let d′ = mid-step cs x d in
       ⊎-elim (λ e. subst (λ y. Ended-kept (ends-by (standing y) (cs′, y) o)) (sym e) (mid-end cs′ Home (subst (Mid cs′) e d′) refl))
         (λ h. ends-kept cs′ (m .next) d′ (h .2) o (λ b′. alone-kept n cs′ (m .next) d′ b′ (h .0) (omega arith)) (standing (m .next)) (stage-is (m .next)) refl)
-        (falls κ k (contents cs) (marks cs) (contents-inside κ k cs (d .size)) x b q)
+        (falls κ k (contents cs) (marks cs) (contents-inside cs N (d .size)) x b q)
 
-  pub entered-kept : Goal κ filler w g f (enter k) (whole-entry (κ .kind) w k)
+  pub entered-kept : Goal κ filler w g (enter k) (whole-entry (κ .kind) w k)
   unfolding whole-entry Goal Wide left-over
   entered-kept = by-check (λ o. Kept κ filler (o .0) (log-enter k (o .1) g)) (bad-size N) WrongSize w _ f (λ _. alone-kept (enough N) (w .cells) Home mid-start refl tt (omega arith))

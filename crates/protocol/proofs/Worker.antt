@@ -9,8 +9,8 @@ use Rattle.protocol.specs.Cells.{Content, empty, holds, is-occupied, updated}
 use Rattle.protocol.specs.Stages.{Inserted, Found, Full}
 use Rattle.protocol.specs.Step.{Ordering, before, same, after, is, versus}
 use Rattle.protocol.specs.OneWorker.{is-less, is-equal, is-greater, all-occupied, empty-left, empty-right, lower, equal, higher, has, slide-left, slide-right, starts-right, from-side, between, unless-full, unless-found, unless-home, one-worker}
-use Rattle.protocol.proofs.Lawful.{Lawful}
-use Rattle.protocol.proofs.Basics.{updated-at, updated-other, order-refl, versus-is}
+use Rattle.protocol.proofs.Lawful.{Lawful, order-refl, versus-is}
+use Rattle.protocol.proofs.Updates.{updated-at, updated-other}
 use Rattle.protocol.proofs.Sorted.{Sorted}
 
 module _ {K : Type 0} where

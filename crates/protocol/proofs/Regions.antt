@@ -9,9 +9,9 @@ use Rattle.std.proofs.shelf.Tests.{cases-lt, cases-eq, both-ways}
 use Rattle.protocol.specs.Cells.{Content, empty, cell}
 use Rattle.protocol.specs.Stages.{Leftward, Rightward, Stage, Idle, Home, Look, Left, Right, FirstMark, SecondMark, GiveBack, Check, Shift, ReleaseLeft, ReleaseRight, Answered}
 use Rattle.protocol.proofs.Lawful.{Lawful}
-use Rattle.protocol.proofs.Basics.{not-both}
-use Rattle.protocol.proofs.Standings.{holder}
-use Rattle.protocol.proofs.Inv.{Owner, by, Keeps, In-shift, by-inj, Region, Good, Core, own, marked-by}
+use Rattle.protocol.proofs.Updates.{not-both}
+use Rattle.protocol.proofs.Holding.{holder}
+use Rattle.protocol.proofs.Invariant.{Owner, by, Keeps, In-shift, by-inj, Region, Good, Core, marked-by, own}
 
 pub hold-l : (N l r : ℕ) → 0 < l → l ≤ N → ((eqb l l || eqb l r) && cell N l) ≡ true
 hold-l N l r a b = grind arith
@@ -21,6 +21,10 @@ hold-r N l r a b = grind arith
 
 pub hold-one : (N l p : ℕ) → p ≡ l → 0 < p → p ≤ N → (eqb p l && cell N p) ≡ true
 hold-one N l p e a b = grind arith
+
+-- two regions whose boundaries are edges or off the other region do not meet
+pub apart-by : (N p l r l′ r′ : ℕ) → (l ≡ 0) ⊎ ((l < l′) ⊎ (r′ < l)) → (N < r) ⊎ ((r < l′) ⊎ (r′ < r)) → (l′ ≡ 0) ⊎ ((l′ < l) ⊎ (r < l′)) → (N < r′) ⊎ ((r′ < l) ⊎ (r < r′)) → (0 < l′) ⊎ (r′ ≤ N) → r ≤ suc N → r′ ≤ suc N → l ≤ p → p ≤ r → l′ ≤ p → p ≤ r′ → ⊥
+apart-by N p l r l′ r′ a b a′ b′ d e e′ h1 h2 h3 h4 = omega arith
 
 module _ {K : Type 0} {N : ℕ} (κ : Lawful K N) {T : ℕ → Content K} {M : ℕ → Bool} {O : ℕ → Owner} {ky : ℕ → K} {st : ℕ → Stage} {S : ℕ → Content K} (c : Core κ T M O ky st S) where
   pub good-at : (t : ℕ) (x : Stage) → st t ≡ x → Good κ T M S (ky t) x
@@ -103,15 +107,15 @@ module _ {K : Type 0} {N : ℕ} (κ : Lawful K N) {T : ℕ → Content K} {M : �
   outside s t l r p n f o a b lp pr =
       ⊎-elim (λ (e : l ≡ p). n (by-inj o (ap O (sym e) ∙ f .own-l (omega arith))))
         (λ x. ⊎-elim (λ (e : r ≡ p). n (by-inj o (ap O (sym e) ∙ f .own-r (omega arith))))
-          (λ y. both-ways (M p) (f .region .solid p (omega arith) (omega arith) .0) (marked-by κ c s p s o))
+          (λ y. both-ways (M p) (f .region .solid p (omega arith) (omega arith) .0) (marked-by κ c p s o))
           (cases-eq r p))
         (cases-eq l p)
 
   -- nor is an empty cell without a mark
   pub clear : (t l r p : ℕ) → Fence t l r → T p ≡ empty → M p ≡ false → 0 < p → p ≤ N → l ≤ p → p ≤ r → ⊥
   clear t l r p f em um a b lp pr =
-      ⊎-elim (λ (e : l ≡ p). both-ways (M p) um (marked-by κ c t p t (ap O (sym e) ∙ f .own-l (omega arith))))
-        (λ x. ⊎-elim (λ (e : r ≡ p). both-ways (M p) um (marked-by κ c t p t (ap O (sym e) ∙ f .own-r (omega arith))))
+      ⊎-elim (λ (e : l ≡ p). both-ways (M p) um (marked-by κ c p t (ap O (sym e) ∙ f .own-l (omega arith))))
+        (λ x. ⊎-elim (λ (e : r ≡ p). both-ways (M p) um (marked-by κ c p t (ap O (sym e) ∙ f .own-r (omega arith))))
           (λ y. not-both em (f .region .solid p (omega arith) (omega arith) .1))
           (cases-eq r p))
         (cases-eq l p)
@@ -129,9 +133,6 @@ module _ {K : Type 0} {N : ℕ} (κ : Lawful K N) {T : ℕ → Content K} {M : �
       ⊎-elim inl
         (λ z. ⊎-elim (λ y. inr (inl y)) (λ y. ⊎-elim (λ x. inr (inr x)) (λ x. absurd (outside s t l′ r′ r n g (f .own-r z) (omega arith) z y x)) (cases-lt r′ r)) (cases-lt r l′))
         (cases-lt N r)
-
-  pub apart-by : (N p l r l′ r′ : ℕ) → (l ≡ 0) ⊎ ((l < l′) ⊎ (r′ < l)) → (N < r) ⊎ ((r < l′) ⊎ (r′ < r)) → (l′ ≡ 0) ⊎ ((l′ < l) ⊎ (r < l′)) → (N < r′) ⊎ ((r′ < l) ⊎ (r < r′)) → (0 < l′) ⊎ (r′ ≤ N) → r ≤ suc N → r′ ≤ suc N → l ≤ p → p ≤ r → l′ ≤ p → p ≤ r′ → ⊥
-  apart-by N p l r l′ r′ a b a′ b′ d e e′ h1 h2 h3 h4 = omega arith
 
   pub apart : (s t l r l′ r′ p : ℕ) → s ≢ t → Fence s l r → Fence t l′ r′ → (0 < l′) ⊎ (r′ ≤ N) → l ≤ p → p ≤ r → l′ ≤ p → p ≤ r′ → ⊥
   apart s t l r l′ r′ p n f g d a b a′ b′ =

@@ -16,14 +16,15 @@ use Rattle.protocol.specs.Turns.{noted, watched}
 use Rattle.protocol.specs.OneWorker.{one-worker, table, Alike}
 use Rattle.protocol.specs.Safety.{Was-new, now-new, earlier, New-once}
 use Rattle.protocol.proofs.Lawful.{Lawful}
-use Rattle.protocol.proofs.Basics.{updated-same, updated-at, updated-other}
+use Rattle.protocol.proofs.Updates.{updated-same, updated-at, updated-other}
 use Rattle.protocol.proofs.Sorted.{Sorted, inside}
 use Rattle.protocol.proofs.Worker.{worker-found}
-use Rattle.protocol.proofs.Standings.{Told, stage-is, holder, no-holder}
-use Rattle.protocol.proofs.Flow.{State, contents-after, marks-after, with-station, stepped}
-use Rattle.protocol.proofs.Inv.{Owner, free, by, taken, is-by, owners-after, In-shift, is-by-self, table-after, Right-answer, Good, Core, still}
-use Rattle.protocol.proofs.Fence.{good-at, around}
-use Rattle.protocol.proofs.Easy.{Done, home-step, look-step, left-step, right-step, first-step, back-step, unleft-step, unright-step}
+use Rattle.protocol.proofs.Standings.{Told, stage-is}
+use Rattle.protocol.proofs.Holding.{holder, no-holder}
+use Rattle.protocol.proofs.State.{State, contents-after, marks-after, with-station, stepped}
+use Rattle.protocol.proofs.Invariant.{Owner, free, by, taken, is-by, owners-after, In-shift, is-by-self, table-after, Right-answer, Good, Core, still}
+use Rattle.protocol.proofs.Regions.{good-at, around}
+use Rattle.protocol.proofs.Steps.{Done, home-step, look-step, left-step, right-step, first-step, back-step, unleft-step, unright-step}
 use Rattle.protocol.proofs.Checks.{second-step, check-step}
 use Rattle.protocol.proofs.Shifts.{left-shift-step, right-shift-step}
 

@@ -1,75 +1,23 @@
 -- The steps that change no key, and the entry at home.
 use mathlib.Core.Path.{_≡_, refl, sym, ap, _∙_, subst}
-use mathlib.Core.Logic.{_⊎_, inl, inr, ⊎-elim, _≢_}
-use mathlib.Core.Bool.{Bool, true, false, cond, _&&_, _||_}
+use mathlib.Core.Logic.{inl, inr, ⊎-elim, _≢_}
+use mathlib.Core.Bool.{Bool, true, false, cond}
 use Prim.Native.Nat.{ℕ, suc, _≤_, _<_, pred}
 use native.Mathlib.Omega.{arith}
-use lib.Dec.{eqb, leb}
+use lib.Dec.{leb}
 use Rattle.std.proofs.shelf.Tests.{cases-lt, cases-eq, both-ways}
 use Rattle.protocol.specs.Cells.{Content, empty, holds, Rest, Write, cell, is-occupied, updated}
 use Rattle.protocol.specs.Stages.{Answer, Inserted, Found, Leftward, Rightward, Stage, Idle, Home, Look, Left, Right, FirstMark, SecondMark, GiveBack, Check, Shift, ReleaseLeft, ReleaseRight, Answered}
-use Rattle.protocol.specs.Step.{Ordering, before, same, after, Ended, Onward, took, Decision, Versus, none, is, walk-at, decided, at-home, at-look, at-left, at-right, at-first, release, versus, decide}
+use Rattle.protocol.specs.Step.{before, same, after, Ended, Onward, took, Decision, Versus, none, is, walk-at, decided, at-home, at-look, at-left, at-right, at-first, release, versus, decide}
 use Rattle.protocol.specs.OneWorker.{one-worker}
-use Rattle.protocol.proofs.Lawful.{Lawful}
-use Rattle.protocol.proofs.Basics.{updated-same, updated-at, updated-other, not-both, holds-occ, by-place, versus-is}
+use Rattle.protocol.proofs.Lawful.{Lawful, by-place, versus-none, versus-same, versus-occ}
+use Rattle.protocol.proofs.Updates.{updated-same, updated-at, updated-other, not-both, holds-occ, occ-none}
 use Rattle.protocol.proofs.Sorted.{home-left, home-right, inside, More, more-sorted}
 use Rattle.protocol.proofs.Worker.{worker-home, worker-found}
-use Rattle.protocol.proofs.Standings.{holder}
-use Rattle.protocol.proofs.Flow.{contents-after, marks-after}
-use Rattle.protocol.proofs.Inv.{Owner, owners-after, Keeps, In-shift, table-after, Right-answer, answer-told, answer-new, Solid, Region, Good, Core, make, still, own, marked-by, marking, unmarking}
-use Rattle.protocol.proofs.Fence.{good-at, around, relied, clear}
-
--- a release of p where only p or both are held
-pub off-one : (N l q : ℕ) → l ≢ q → (eqb q l && cell N q) ≡ false
-off-one N l q n = grind arith
-
-pub off-two : (N l r q : ℕ) → l ≢ q → (eqb q r && cell N q) ≡ ((eqb q l || eqb q r) && cell N q)
-off-two N l r q n = grind arith
-
-pub one-at : (N l : ℕ) → cell N l ≡ true → (eqb l l && cell N l) ≡ true
-one-at N l e = grind arith
-
-pub off-edge : (N l q : ℕ) → cell N l ≡ false → (eqb q l && cell N q) ≡ false
-off-edge N l q e = grind arith
-
-pub two-at : (N l r : ℕ) → cell N l ≡ true → ((eqb l l || eqb l r) && cell N l) ≡ true
-two-at N l r e = grind arith
-
-pub two-at-r : (N l r : ℕ) → cell N r ≡ true → ((eqb r l || eqb r r) && cell N r) ≡ true
-two-at-r N l r e = grind arith
-
-pub two-off-r : (N l r q : ℕ) → r ≢ q → ((eqb q l || eqb q r) && cell N q) ≡ (eqb q l && cell N q)
-two-off-r N l r q n = grind arith
-
-pub two-edge-l : (N l r q : ℕ) → cell N l ≡ false → (eqb q r && cell N q) ≡ ((eqb q l || eqb q r) && cell N q)
-two-edge-l N l r q e = grind arith
-
-pub two-edge-r : (N l r q : ℕ) → cell N r ≡ false → ((eqb q l || eqb q r) && cell N q) ≡ (eqb q l && cell N q)
-two-edge-r N l r q e = grind arith
-
-pub one-other : (N l r : ℕ) → l ≢ r → (eqb l r && cell N l) ≡ false
-one-other N l r n = grind arith
-
-pub cell-parts : (N p : ℕ) → cell N p ≡ true → (0 < p) × (p ≤ N)
-cell-parts N p e = grind arith
-
-pub no-cell : (N p : ℕ) → cell N p ≡ false → (p ≡ 0) ⊎ (N < p)
-no-cell N p e = ⊎-elim (λ (a : 0 < p). inr (⊎-elim (λ b. b) (λ (b : p ≤ N). absurd (both-ways (cell N p) e (grind arith))) (cases-lt N p))) (λ a. inl (omega arith)) (cases-lt 0 p)
-
-pub occ-none : {K : Type 0} (x : Content K) → is-occupied x ≡ false → x ≡ empty
-occ-none empty e = refl
-occ-none (holds y) e = absurd (both-ways true e refl)
-
-module _ {K : Type 0} {N : ℕ} (κ : Lawful K N) where
-  pub versus-none : (k : K) (x : Content K) → versus (κ .kind) k x ≡ none → x ≡ empty
-  versus-none k empty e = refl
-  versus-none k (holds y) e = let z : _≡_ {A = ℕ} 0 1 = cc in absurd (omega arith)
-
-  pub versus-same : (k : K) (x : Content K) → versus (κ .kind) k x ≡ is same → x ≡ holds k
-  versus-same k x e = let h = versus-is κ k x same e in h .1 ∙ ap holds (κ .order-same (h .0) k (h .2))
-
-  pub versus-occ : (k : K) (x : Content K) (o : Ordering) → versus (κ .kind) k x ≡ is o → is-occupied x ≡ true
-  versus-occ k x o e = holds-occ (versus-is κ k x o e .1)
+use Rattle.protocol.proofs.Holding.{holder, no-cell, off-one, off-two, one-at, off-edge, two-at, two-edge-l, one-other}
+use Rattle.protocol.proofs.State.{contents-after, marks-after}
+use Rattle.protocol.proofs.Invariant.{Owner, owners-after, Keeps, In-shift, Solid, table-after, Right-answer, answer-told, answer-new, Region, Good, Core, region-mark, marked-by, make, still, own, marking, unmarking}
+use Rattle.protocol.proofs.Regions.{good-at, around, relied, clear}
 
 module _ {K : Type 0} {N : ℕ} (κ : Lawful K N) {T : ℕ → Content K} {M : ℕ → Bool} {O : ℕ → Owner} {ky : ℕ → K} {st : ℕ → Stage} {S : ℕ → Content K} (c : Core κ T M O ky st S) (s : ℕ) where
   abbrev pub Done : Decision K → Type 0
@@ -125,7 +73,7 @@ module _ {K : Type 0} {N : ℕ} (κ : Lawful K N) {T : ℕ → Content K} {M : �
       S′ : ℕ → Content K
       S′ = updated S h (holds k)
       free-of : (t : ℕ) → Keeps (st t) h → ⊥
-      free-of t i = ⊎-elim (λ o. both-ways (M h) um (marked-by κ c t h t (o a b))) (λ f. clear κ c t (f .0) (f .1) h (f .2) em um a b (f .3) (f .4)) (relied κ c t h i)
+      free-of t i = ⊎-elim (λ o. both-ways (M h) um (marked-by κ c h t (o a b))) (λ f. clear κ c t (f .0) (f .1) h (f .2) em um a b (f .3) (f .4)) (relied κ c t h i)
       not-shift : (t : ℕ) → In-shift (st t) h → ⊥
       not-shift t i = let f = around κ c t h i in clear κ c t (f .l) (f .r) h (f .fenced) em um a b (f .l-p) (f .p-r)
       s-empty : S h ≡ empty
@@ -177,10 +125,10 @@ module _ {K : Type 0} {N : ℕ} (κ : Lawful K N) {T : ℕ → Content K} {M : �
     where
       h : ℕ
       h = κ .kind .place (ky s)
-      g : Solid κ T M h
+      g : Solid T M h
       g = good-at κ c s (Look p) e
       ended : Done (at-look h Ended)
-      ended = let a = κ .place-low (ky s) in (still κ c s (Look p) (Left (pred h)) e (λ q. refl) (λ q i. i) (omega arith, λ q x y. subst (λ i. Solid κ T M i) (let z : h ≡ q = omega arith in z) g), tt)
+      ended = let a = κ .place-low (ky s) in (still κ c s (Look p) (Left (pred h)) e (λ q. refl) (λ q i. i) (omega arith, λ q x y. subst (λ i. Solid T M i) (let z : h ≡ q = omega arith in z) g), tt)
       on-to : (q : ℕ) → Done (at-look h (Onward q))
       on-to q = (still κ c s (Look p) (Look q) e (λ q. refl) (λ q i. i) g, tt)
       go : (v : Versus) → versus (κ .kind) (ky s) (T p) ≡ v → Done (at-look h (walk-at h p v))
@@ -206,7 +154,7 @@ module _ {K : Type 0} {N : ℕ} (κ : Lawful K N) {T : ℕ → Content K} {M : �
       g = good-at κ c s (Left p) e
       go : (b o : Bool) → M p ≡ b → is-occupied (T p) ≡ o → Done (at-left h p b o)
       go true o m z = (still κ c s (Left p) Home e (λ q. refl) (λ q i. i) tt, tt)
-      go false true m z = (still κ c s (Left p) (Left (pred p)) e (λ q. refl) (λ q i. i) (let a = g .0 in omega arith, λ q x y. ⊎-elim (λ (i : p ≡ q). subst (λ j. Solid κ T M j) i (m, z)) (λ n. g .1 q (omega arith) y) (cases-eq p q)), tt)
+      go false true m z = (still κ c s (Left p) (Left (pred p)) e (λ q. refl) (λ q i. i) (let a = g .0 in omega arith, λ q x y. ⊎-elim (λ (i : p ≡ q). subst (λ j. Solid T M j) i (m, z)) (λ n. g .1 q (omega arith) y) (cases-eq p q)), tt)
       go false false m z = (still κ c s (Left p) (Right p (suc h)) e (λ q. refl) (λ q i. i) (g .0, omega arith, λ q x y. g .1 q x (omega arith)), tt)
 
   pub right-step : (l p : ℕ) → st s ≡ Right l p → Done (decide (κ .kind) (ky s) (Right l p) T M)
@@ -218,14 +166,11 @@ module _ {K : Type 0} {N : ℕ} (κ : Lawful K N) {T : ℕ → Content K} {M : �
       g = good-at κ c s (Right l p) e
       go : (b o : Bool) → M p ≡ b → is-occupied (T p) ≡ o → Done (at-right l p b o)
       go true o m z = (still κ c s (Right l p) Home e (λ q. refl) (λ q i. i) tt, tt)
-      go false true m z = (still κ c s (Right l p) (Right l (suc p)) e (λ q. refl) (λ q i. i) (g .0, (let a = g .1 in omega arith), λ q x y. ⊎-elim (λ (i : p ≡ q). subst (λ j. Solid κ T M j) i (m, z)) (λ n. g .2 q x (omega arith)) (cases-eq p q)), tt)
+      go false true m z = (still κ c s (Right l p) (Right l (suc p)) e (λ q. refl) (λ q i. i) (g .0, (let a = g .1 in omega arith), λ q x y. ⊎-elim (λ (i : p ≡ q). subst (λ j. Solid T M j) i (m, z)) (λ n. g .2 q x (omega arith)) (cases-eq p q)), tt)
       go false false m z =
           let high = κ .place-high (ky s) in
           let top : p ≤ suc N = ⊎-elim (λ (a : suc N < p). let b = g .0 in absurd (not-both (c .edge-high (suc N) (omega arith)) (g .2 (suc N) (omega arith) a .1))) (λ a. a) (cases-lt (suc N) p) in
           (still κ c s (Right l p) (FirstMark l p) e (λ q. refl) (λ q i. i) (record { l-h = g .0; h-r = g .1; top = top; solid = g .2 }), tt)
-
-  pub region-mark : {k : K} {l r : ℕ} (p : ℕ) → T p ≡ empty → Region κ T M k l r → Region κ T (updated M p true) k l r
-  region-mark p em g = record { l-h = g .l-h; h-r = g .h-r; top = g .top; solid = λ q x y. let z = g .solid q x y in (updated-other M p q true (λ i. not-both (sym (ap T i) ∙ em) (z .1)) ∙ z .0, z .1) }
 
   pub first-step : (l r : ℕ) → st s ≡ FirstMark l r → Done (decide (κ .kind) (ky s) (FirstMark l r) T M)
   first-step l r e = go (cell N l) (M l) (is-occupied (T l)) refl refl refl
@@ -238,7 +183,7 @@ module _ {K : Type 0} {N : ℕ} (κ : Lawful K N) {T : ℕ → Content K} {M : �
           (still κ c s (FirstMark l r) (SecondMark l r) e (λ q. off-edge N l q x) (λ q i. i) (g, empty-edge), tt)
       go true true o x m z = (still κ c s (FirstMark l r) Home e (λ q. refl) (λ q i. i) tt, tt)
       go true false true x m z = (still κ c s (FirstMark l r) Home e (λ q. refl) (λ q i. i) tt, tt)
-      go true false false x m z = (marking κ c s (FirstMark l r) (SecondMark l r) l e m (occ-none (T l) z) (λ q n. off-one N l q n) (one-at N l x) (λ q i. i) (region-mark l (occ-none (T l) z) g, occ-none (T l) z), tt)
+      go true false false x m z = (marking κ c s (FirstMark l r) (SecondMark l r) l e m (occ-none (T l) z) (λ q n. off-one N l q n) (one-at N l x) (λ q i. i) (region-mark κ l (occ-none (T l) z) g, occ-none (T l) z), tt)
 
   pub back-step : (g : ℕ) → st s ≡ GiveBack g → Done (decide (κ .kind) (ky s) (GiveBack g) T M)
   back-step g e = let x = good-at κ c s (GiveBack g) e in (unmarking κ c s (GiveBack g) Home (suc g) e (own κ c s (GiveBack g) e (suc g) (one-at N (suc g) x)) (λ q n. sym (off-one N (suc g) q n)) refl (λ q i. i) tt, tt)

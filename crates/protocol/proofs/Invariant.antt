@@ -11,9 +11,9 @@ use Rattle.protocol.specs.Stages.{Answer, Inserted, Leftward, Rightward, Stage
 use Rattle.protocol.specs.Step.{before, after, Effect, nothing, took, is, versus}
 use Rattle.protocol.specs.OneWorker.{starts-right, one-worker}
 use Rattle.protocol.proofs.Lawful.{Lawful}
-use Rattle.protocol.proofs.Basics.{updated-same, updated-at, updated-other, not-both}
+use Rattle.protocol.proofs.Updates.{updated-same, updated-at, updated-other, not-both}
 use Rattle.protocol.proofs.Sorted.{Sorted}
-use Rattle.protocol.proofs.Standings.{holder}
+use Rattle.protocol.proofs.Holding.{holder}
 
 pub data Owner : Type 0 where
   free : Owner
@@ -74,6 +74,10 @@ is-by-true s (by t) e = ap by (sym (eqb-true s t e))
 pub by-inj : {o : Owner} {s t : ℕ} → o ≡ by s → o ≡ by t → s ≡ t
 by-inj a b = cc
 
+-- occupied and unmarked: no turn ever makes such a place another
+abbrev pub Solid : {K : Type 0} → (ℕ → Content K) → (ℕ → Bool) → ℕ → Type 0
+Solid T M p = (M p ≡ false) × (is-occupied (T p) ≡ true)
+
 module _ {K : Type 0} {N : ℕ} (κ : Lawful K N) where
   abbrev pub table-after : K → Effect → (ℕ → Content K) → ℕ → Content K
   table-after k nothing S = S
@@ -90,9 +94,6 @@ module _ {K : Type 0} {N : ℕ} (κ : Lawful K N) where
 
   pub answer-new : (k : K) (S S′ : ℕ → Content K) → one-worker (κ .kind) S k ≡ (S′, Inserted) → ((x : K) (p : ℕ) → S p ≡ holds x → (q : ℕ) × (S′ q ≡ holds x)) → (q : ℕ) → S′ q ≡ holds k → Right-answer k (took Inserted) S
   answer-new k S S′ w keep q new = (ap (λ z. z .1) w, λ x p h. let y = keep x p h in (y .0, ap (λ z. z .0 (y .0)) w ∙ y .1), λ e. (q, ap (λ z. z .0 q) w ∙ new))
-
-  abbrev pub Solid : (ℕ → Content K) → (ℕ → Bool) → ℕ → Type 0
-  Solid T M p = (M p ≡ false) × (is-occupied (T p) ≡ true)
 
   pub record Region (T : ℕ → Content K) (M : ℕ → Bool) (k : K) (l r : ℕ) : Type 0 where
     pub l-h : l < κ .kind .place k
@@ -164,21 +165,25 @@ module _ {K : Type 0} {N : ℕ} (κ : Lawful K N) where
     pub agree : (p : ℕ) → (S p ≡ T p) ⊎ ((s : ℕ) × In-shift (st s) p)
     pub sorted : Sorted κ S
 
+  -- marking an empty place leaves a region solid
+  pub region-mark : {T : ℕ → Content K} {M : ℕ → Bool} {k : K} {l r : ℕ} (p : ℕ) → T p ≡ empty → Region T M k l r → Region T (updated M p true) k l r
+  region-mark {T} {M} p em g = record { l-h = g .l-h; h-r = g .h-r; top = g .top; solid = λ q x y. let z = g .solid q x y in (updated-other M p q true (λ i. not-both (sym (ap T i) ∙ em) (z .1)) ∙ z .0, z .1) }
+
   -- what others' turns do to a station's knowledge
-  module _ (T T′ : ℕ → Content K) (M M′ : ℕ → Bool) (S S′ : ℕ → Content K) (solid : (p : ℕ) → Solid T M p → Solid T′ M′ p) where
+  module _ (T T′ : ℕ → Content K) (M M′ : ℕ → Bool) (solid : (p : ℕ) → Solid T M p → Solid T′ M′ p) where
     pub region-stable : {k : K} {l r : ℕ} → Region T M k l r → Region T′ M′ k l r
     region-stable g = record { l-h = g .l-h; h-r = g .h-r; top = g .top; solid = λ p a b. solid p (g .solid p a b) }
 
-    pub good-stable : (k : K) (x : Stage) → ((p : ℕ) → Keeps x p → (T′ p ≡ T p) × (S′ p ≡ S p)) → Good T M S k x → Good T′ M′ S′ k x
-    good-stable k Idle keep g = tt
-    good-stable k Home keep g = tt
-    good-stable k (Look p) keep g = solid (κ .kind .place k) g
-    good-stable k (Left p) keep g = (g .0, λ q a b. solid q (g .1 q a b))
-    good-stable k (Right l p) keep g = (g .0, g .1, λ q a b. solid q (g .2 q a b))
-    good-stable k (FirstMark l r) keep g = region-stable g
-    good-stable k (SecondMark l r) keep g = (region-stable (g .0), keep l refl .0 ∙ g .1)
-    good-stable k (GiveBack q) keep g = g
-    good-stable k (Check l r p) keep g =
+    pub good-stable : (S S′ : ℕ → Content K) (k : K) (x : Stage) → ((p : ℕ) → Keeps x p → (T′ p ≡ T p) × (S′ p ≡ S p)) → Good T M S k x → Good T′ M′ S′ k x
+    good-stable S S′ k Idle keep g = tt
+    good-stable S S′ k Home keep g = tt
+    good-stable S S′ k (Look p) keep g = solid (κ .kind .place k) g
+    good-stable S S′ k (Left p) keep g = (g .0, λ q a b. solid q (g .1 q a b))
+    good-stable S S′ k (Right l p) keep g = (g .0, g .1, λ q a b. solid q (g .2 q a b))
+    good-stable S S′ k (FirstMark l r) keep g = region-stable g
+    good-stable S S′ k (SecondMark l r) keep g = (region-stable (g .0), keep l refl .0 ∙ g .1)
+    good-stable S S′ k (GiveBack q) keep g = g
+    good-stable S S′ k (Check l r p) keep g =
         let b = g .region .l-h in let c = g .region .h-r in
         record {
           region = region-stable (g .region);
@@ -190,7 +195,7 @@ module _ {K : Type 0} {N : ℕ} (κ : Lawful K N) where
           afters = λ q a b. let d = g .l-p in rw (keep q (omega arith) .1) (g .afters q a b);
           befores = λ q a b. let d = g .p-r in rw (keep q (omega arith) .1) (g .befores q a b);
         }
-    good-stable k (Shift Leftward l r p) keep g =
+    good-stable S S′ k (Shift Leftward l r p) keep g =
         let b = g .region .l-h in let c = g .region .h-r in let d = g .l-g in let e = g .g-r in
         record {
           region = region-stable (g .region);
@@ -205,7 +210,7 @@ module _ {K : Type 0} {N : ℕ} (κ : Lawful K N) where
           afters = λ q a b. rw (keep q (omega arith) .1) (g .afters q a b);
           chosen = rw (keep (κ .kind .place k) (omega arith) .1) (g .chosen);
         }
-    good-stable k (Shift Rightward l r p) keep g =
+    good-stable S S′ k (Shift Rightward l r p) keep g =
         let b = g .region .l-h in let c = g .region .h-r in let d = g .l-g in let e = g .g-r in
         record {
           region = region-stable (g .region);
@@ -220,9 +225,12 @@ module _ {K : Type 0} {N : ℕ} (κ : Lawful K N) where
           befores = λ q a b. rw (keep q (omega arith) .1) (g .befores q a b);
           chosen = rw (keep (κ .kind .place k) (omega arith) .1) (g .chosen);
         }
-    good-stable k (ReleaseLeft l r a) keep g = g
-    good-stable k (ReleaseRight r a) keep g = tt
-    good-stable k (Answered a) keep g = tt
+    good-stable S S′ k (ReleaseLeft l r a) keep g = g
+    good-stable S S′ k (ReleaseRight r a) keep g = tt
+    good-stable S S′ k (Answered a) keep g = tt
+
+  pub marked-by : {T : ℕ → Content K} {M : ℕ → Bool} {O : ℕ → Owner} {ky : ℕ → K} {st : ℕ → Stage} {S : ℕ → Content K} → Core T M O ky st S → (p t : ℕ) → O p ≡ by t → M p ≡ true
+  marked-by c p t e = c .marks p ∙ ap taken e
 
   module _ {T : ℕ → Content K} {M : ℕ → Bool} {O : ℕ → Owner} {ky : ℕ → K} {st : ℕ → Stage} {S : ℕ → Content K} (c : Core T M O ky st S) (s : ℕ) where
     -- after one step of s, which leaves its stage at next
@@ -248,7 +256,7 @@ module _ {K : Type 0} {N : ℕ} (κ : Lawful K N) where
           marks = mk;
           good = λ t. ⊎-elim
             (λ (e : s ≡ t). subst (λ x. Good T′ M′ S′ (ky t) x) (sym (updated-at st s t next e)) (subst (λ i. Good T′ M′ S′ (ky i) next) e gd))
-            (λ n. subst (λ x. Good T′ M′ S′ (ky t) x) (sym (updated-other st s t next n)) (good-stable T T′ M M′ S S′ so (ky t) (st t) (λ p h. keep t p n h) (c .good t)))
+            (λ n. subst (λ x. Good T′ M′ S′ (ky t) x) (sym (updated-other st s t next n)) (good-stable T T′ M M′ so S S′ (ky t) (st t) (λ p h. keep t p n h) (c .good t)))
             (cases-eq s t);
           agree = λ p. ⊎-elim inl (⊎-elim
             (λ h. inr (h .0, subst (λ x. In-shift x p) (sym (updated-other st s (h .0) next (h .1))) (h .2)))
@@ -270,9 +278,6 @@ module _ {K : Type 0} {N : ℕ} (κ : Lawful K N) where
 
     pub own : (x : Stage) → st s ≡ x → (p : ℕ) → holder N x p ≡ true → O p ≡ by s
     own x e p h = is-by-true s (O p) (sym (c .owned s p) ∙ ap (λ y. holder N y p) e ∙ h)
-
-    pub marked-by : (p t : ℕ) → O p ≡ by t → M p ≡ true
-    marked-by p t e = c .marks p ∙ ap taken e
 
     pub marking : (x next : Stage) (p : ℕ) → st s ≡ x → M p ≡ false → T p ≡ empty
         → ((q : ℕ) → p ≢ q → holder N next q ≡ holder N x q) → holder N next p ≡ true

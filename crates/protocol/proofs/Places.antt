@@ -7,12 +7,12 @@ use Prim.Native.Nat.{ℕ, zero, suc, _≤_, _<_}
 use native.Mathlib.Nat.{le-of-suc-le-suc, not-suc-le-zero}
 use native.Mathlib.Omega.{arith}
 use lib.ListN.{length, set}
-use Rattle.std.proofs.shelf.Tests.{cases-lt, cases-eq}
+use Rattle.std.proofs.shelf.Tests.{cases-lt, cases-eq, both-ways}
 use Rattle.protocol.specs.declared.Cell.{Cell}
-use Rattle.protocol.specs.Cells.{empty, holds, Act, Rest, Mark, Unmark, Write, updated, nth, content-at, marked-at, contents, marks, with-mark, with-key, alter, alter-place, cells-after}
+use Rattle.protocol.specs.Cells.{empty, holds, Act, Rest, Mark, Unmark, Write, is-occupied, updated, nth, content-at, marked-at, contents, marks, with-mark, with-key, alter, alter-place, cells-after}
 use Rattle.protocol.specs.Calls.{blank}
-use Rattle.protocol.proofs.Basics.{updated-at, updated-other}
-use Rattle.protocol.proofs.Flow.{contents-after, marks-after}
+use Rattle.protocol.proofs.Updates.{updated-at, updated-other, not-both}
+use Rattle.protocol.proofs.State.{contents-after, marks-after}
 
 module _ {K : Type 0} where
   pub length-alter : (f : Cell K → Cell K) (i : ℕ) (cs : List (Cell K)) → length (alter f i cs) ≡ length cs
@@ -86,10 +86,6 @@ module _ {K : Type 0} where
   contents-past cs zero h = refl
   contents-past cs (suc i) h = content-past cs i (le-of-suc-le-suc h)
 
-  pub marks-past : (cs : List (Cell K)) (p : ℕ) → length cs < p → marks cs p ≡ false
-  marks-past cs zero h = refl
-  marks-past cs (suc i) h = marked-past cs i (le-of-suc-le-suc h)
-
   pub marks-elsewhere : (f : Cell K → Cell K) (p : ℕ) (cs : List (Cell K)) (q : ℕ) → p ≢ q → marks (alter-place f p cs) q ≡ marks cs q
   marks-elsewhere f zero cs q n = refl
   marks-elsewhere f (suc i) cs zero n = refl
@@ -161,6 +157,11 @@ module _ {K : Type 0} where
   pub marks-blank : (k : K) (cs : List (Cell K)) (p : ℕ) → marks (map (blank k) cs) p ≡ false
   marks-blank k cs zero = refl
   marks-blank k cs (suc i) = marked-blank k cs i
+
+  -- only cells are occupied
+  pub contents-inside : (cs : List (Cell K)) (n : ℕ) → length cs ≡ n → (p : ℕ) → is-occupied (contents cs p) ≡ true → (0 < p) × (p ≤ n)
+  contents-inside cs n size zero o = absurd (both-ways false refl o)
+  contents-inside cs n size (suc i) o = (omega arith, ⊎-elim (λ (a : n < suc i). absurd (not-both (contents-past cs (suc i) (omega arith)) o)) (λ a. a) (cases-lt n (suc i)))
 
 module _ {A : Type 0} where
   pub nth-same : (xs : List A) (i : ℕ) (a b : A) → nth xs i ≡ holds b → nth (set xs i a) i ≡ holds a
