@@ -10,7 +10,7 @@ pub use Rattle.protocol.specs.declared.Stage.{Stage}
 pub use Rattle.protocol.specs.declared.Stage.the-variants.{Idle, Home, Look, Left, Right, FirstMark, SecondMark, GiveBack, Check, Shift, ReleaseLeft, ReleaseRight, Answered}
 use Rattle.protocol.specs.Cells.{cell}
 
--- the four standings of a station
+-- A station is idle, at home, further on with its entry, or answered.
 pub data Standing : Type 0 where
   resting : Standing
   homing : Standing
