@@ -1,11 +1,11 @@
 -- The worked examples, by computation.
 use mathlib.Core.Path.{refl}
-use Rattle.protocol.specs.Calls.{refused-if, for-record, beginning, collecting, stepping, alone, whole-entry}
+use Rattle.protocol.specs.Calls.{refused-if, for-record, beginning, collecting, withdrawing, stepping, alone, whole-entry}
 use Rattle.protocol.specs.OneWorker.{all-occupied, empty-left, empty-right, has, slide-left, slide-right, one-worker}
 use Rattle.protocol.specs.Examples.{entering, answers, steps, sayings, worked, worker-answers, Examples}
 
 pub examples : Examples
-unfolding entering answers steps sayings worked worker-answers one-worker all-occupied empty-left empty-right has slide-left slide-right refused-if for-record beginning stepping collecting alone whole-entry
+unfolding entering answers steps sayings worked worker-answers one-worker all-occupied empty-left empty-right has slide-left slide-right refused-if for-record beginning stepping collecting withdrawing alone whole-entry
 examples = record {
   ten-worker = refl;
   ten = refl;
@@ -20,4 +20,16 @@ examples = record {
   twelve-cells = refl;
   home-said = refl;
   home-stays = refl;
+  left-said = refl;
+  left-steps = refl;
+  left-cells = refl;
+  gone-said = refl;
+  refused-1 = refl;
+  refused-2 = refl;
+  refused-3 = refl;
+  refused-4 = refl;
+  refused-5 = refl;
+  refused-6 = refl;
+  refused-7 = refl;
+  refused-8 = refl;
 }

@@ -10,11 +10,12 @@ use Rattle.keys.specs.declared.Tray.{Tray}
 use Rattle.protocol.specs.declared.Cell.{Cell}
 use Rattle.protocol.specs.declared.Station.{Station}
 use Rattle.protocol.specs.declared.Progress.the-variants as progress
+use Rattle.protocol.specs.declared.Departure.the-variants as departure
 use Rattle.protocol.specs.Cells.{Content, empty, holds, nth}
-use Rattle.protocol.specs.Stages.{Answer, Inserted, Found, Full, Home}
+use Rattle.protocol.specs.Stages.{Answer, Inserted, Found, Full, Home, GiveBack}
 use Rattle.protocol.specs.Step.{kind-over}
-use Rattle.protocol.specs.Calls.{Result, Ok, Err, Refusal, NoEntry, Progress, World, opening, question}
-use Rattle.protocol.specs.Turns.{Turn, begin, step, collect, enter, turned}
+use Rattle.protocol.specs.Calls.{Result, Ok, Err, Refusal, WrongSize, OtherRegister, NoStation, NotIdle, NoEntry, NoCell, NotAnswered, Barred, Progress, World, opening, question}
+use Rattle.protocol.specs.Turns.{Turn, begin, step, collect, withdraw, enter, turned}
 use Rattle.protocol.specs.OneWorker.{one-worker}
 
 abbrev pub tray : ℕ → Tray
@@ -89,6 +90,14 @@ begun-400 = does (does (register 3) (enter (tray 500))) (begin 0 (tray 400))
 abbrev pub begun-100 : World Tray
 begun-100 = does (steps begun-400 0 6) (begin 1 (tray 100))
 
+-- withdrawn after its sixth step, when it holds a mark
+abbrev pub left-400 : World Tray
+left-400 = does (steps begun-400 0 6) (withdraw 5 0)
+
+-- a record that no opened register has
+abbrev pub stray : World Tray
+stray = record { number = 5; cells = old-cells 3; stations = record { key = tray 7; stage = GiveBack 3; withdrawn = false } ∷ [] }
+
 pub record Examples : Type 0 where
   -- ten cells and eight trays, by one worker and by whole entries
   pub ten-worker : places (worked 10 no-keys (145 ∷ 293 ∷ 297 ∷ 458 ∷ 553 ∷ 526 ∷ 841 ∷ 931 ∷ [])) 1 10
@@ -111,3 +120,18 @@ pub record Examples : Type 0 where
   -- after its sixth step, 100 at another station stays at home
   pub home-said : turned trayOrder trayHome begun-100 (step 1) .1 ≡ Ok progress.GoesOn
   pub home-stays : nth (does begun-100 (step 1) .stations) 1 ≡ holds (record { key = tray 100; stage = Home; withdrawn = false })
+  -- withdrawn then, the station goes on, and becomes idle where it would be answered; its key is new all the same
+  pub left-said : turned trayOrder trayHome (steps begun-400 0 6) (withdraw 5 0) .1 ≡ Ok departure.GoesOn
+  pub left-steps : sayings left-400 0 6 ≡ (Ok progress.GoesOn ∷ Ok progress.GoesOn ∷ Ok progress.GoesOn ∷ Ok progress.GoesOn ∷ Ok progress.GoesOn ∷ Ok progress.Idle ∷ [])
+  pub left-cells : row (steps left-400 0 6) ≡ (empty ∷ holds 400 ∷ holds 500 ∷ [])
+  -- withdrawn at home it is gone at once
+  pub gone-said : turned trayOrder trayHome begun-400 (withdraw 5 0) .1 ≡ Ok departure.Gone
+  -- each refusal once
+  pub refused-1 : turned trayOrder trayHome (register 0) (enter (tray 100)) .1 ≡ Err WrongSize
+  pub refused-2 : turned trayOrder trayHome (steps begun-400 0 12) (collect 4 0) .1 ≡ Err OtherRegister
+  pub refused-3 : turned trayOrder trayHome begun-400 (step 2) .1 ≡ Err NoStation
+  pub refused-4 : turned trayOrder trayHome begun-400 (begin 0 (tray 450)) .1 ≡ Err NotIdle
+  pub refused-5 : turned trayOrder trayHome (does (steps begun-400 0 12) (collect 5 0)) (collect 5 0) .1 ≡ Err NoEntry
+  pub refused-6 : turned trayOrder trayHome stray (step 0) .1 ≡ Err NoCell
+  pub refused-7 : turned trayOrder trayHome begun-400 (collect 5 0) .1 ≡ Err NotAnswered
+  pub refused-8 : turned trayOrder trayHome begun-100 (enter (tray 100)) .1 ≡ Err Barred
