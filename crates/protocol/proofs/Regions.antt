@@ -22,6 +22,9 @@ hold-r N l r a b = grind arith
 pub hold-one : (N l p : ℕ) → p ≡ l → 0 < p → p ≤ N → (eqb p l && cell N p) ≡ true
 hold-one N l p e a b = grind arith
 
+pub off-interval : (p l r : ℕ) → (l ≤ p → p ≤ r → ⊥) → (p < l) ⊎ (r < p)
+off-interval p l r h = ⊎-elim inl (λ a. ⊎-elim inr (λ b. absurd (h a b)) (cases-lt r p)) (cases-lt p l)
+
 -- two regions whose boundaries are edges or off the other region do not meet
 pub apart-by : (N p l r l′ r′ : ℕ) → (l ≡ 0) ⊎ ((l < l′) ⊎ (r′ < l)) → (N < r) ⊎ ((r < l′) ⊎ (r′ < r)) → (l′ ≡ 0) ⊎ ((l′ < l) ⊎ (r < l′)) → (N < r′) ⊎ ((r′ < l) ⊎ (r < r′)) → (0 < l′) ⊎ (r′ ≤ N) → r ≤ suc N → r′ ≤ suc N → l ≤ p → p ≤ r → l′ ≤ p → p ≤ r′ → ⊥
 apart-by N p l r l′ r′ a b a′ b′ d e e′ h1 h2 h3 h4 = omega arith
@@ -124,15 +127,12 @@ module _ {K : Type 0} {N : ℕ} (κ : Lawful K N) {T : ℕ → Content K} {M : �
   off-l : (s t l r l′ r′ : ℕ) → s ≢ t → Fence s l r → Fence t l′ r′ → (l ≡ 0) ⊎ ((l < l′) ⊎ (r′ < l))
   off-l s t l r l′ r′ n f g =
       let a = f .region .l-h in let b = κ .place-high (ky s) in
-      ⊎-elim (λ (z : 0 < l). ⊎-elim (λ y. inr (inl y)) (λ y. ⊎-elim (λ x. inr (inr x)) (λ x. absurd (outside s t l′ r′ l n g (f .own-l z) z (omega arith) y x)) (cases-lt r′ l)) (cases-lt l l′))
-        (λ z. inl (omega arith)) (cases-lt 0 l)
+      ⊎-elim (λ (z : 0 < l). inr (off-interval l l′ r′ (outside s t l′ r′ l n g (f .own-l z) z (omega arith)))) (λ z. inl (omega arith)) (cases-lt 0 l)
 
   off-r : (s t l r l′ r′ : ℕ) → s ≢ t → Fence s l r → Fence t l′ r′ → (N < r) ⊎ ((r < l′) ⊎ (r′ < r))
   off-r s t l r l′ r′ n f g =
       let a = f .region .h-r in
-      ⊎-elim inl
-        (λ z. ⊎-elim (λ y. inr (inl y)) (λ y. ⊎-elim (λ x. inr (inr x)) (λ x. absurd (outside s t l′ r′ r n g (f .own-r z) (omega arith) z y x)) (cases-lt r′ r)) (cases-lt r l′))
-        (cases-lt N r)
+      ⊎-elim inl (λ z. inr (off-interval r l′ r′ (outside s t l′ r′ r n g (f .own-r z) (omega arith) z))) (cases-lt N r)
 
   pub apart : (s t l r l′ r′ p : ℕ) → s ≢ t → Fence s l r → Fence t l′ r′ → (0 < l′) ⊎ (r′ ≤ N) → l ≤ p → p ≤ r → l′ ≤ p → p ≤ r′ → ⊥
   apart s t l r l′ r′ p n f g d a b a′ b′ =

@@ -11,18 +11,12 @@ use Rattle.protocol.specs.Step.{Ordering, before, same, after, nothing, took, 
 use Rattle.protocol.specs.OneWorker.{is-less, is-greater, lower, higher, slide-left, slide-right, from-side, one-worker}
 use Rattle.protocol.proofs.Lawful.{Lawful, order-turn, by-place, versus-is, versus-occ}
 use Rattle.protocol.proofs.Updates.{updated-at, updated-other, not-both, holds-occ, holds-inj}
-use Rattle.protocol.proofs.Sorted.{Sorted, home-left, home-right, More, more-sorted}
+use Rattle.protocol.proofs.Sorted.{home-left, home-right, More, more-sorted, between-only}
 use Rattle.protocol.proofs.Worker.{Slid-up, Slid-down, is-higher, is-lower, slid-up, slid-down, worker-gap}
 use Rattle.protocol.proofs.Holding.{holder}
 use Rattle.protocol.proofs.Invariant.{Owner, Keeps, Solid, answer-new, Shifting-left, Shifting-right, Core, region-stable, make, agree-still}
 use Rattle.protocol.proofs.Regions.{fence-left, fence-right, keeps-off}
 use Rattle.protocol.proofs.Steps.{Done}
-
--- a key between two empty places with its home has itself its place there
-pub between-only : {K : Type 0} {N : ℕ} (κ : Lawful K N) {S : ℕ → Content K} (ok : Sorted κ S) (k : K) (l r q : ℕ) → S l ≡ empty → S r ≡ empty → l < κ .kind .place k → κ .kind .place k < r → S q ≡ holds k → (l < q) × (q < r)
-between-only κ {S} ok k l r q sl sr lh hr z =
-    (⊎-elim (λ a. a) (λ (a : q ≤ l). absurd (⊎-elim (λ (y : q ≡ l). not-both sl (holds-occ (ap S (sym y) ∙ z))) (λ n. let b = home-left κ ok l q k sl (omega arith) z in omega arith) (cases-eq q l))) (cases-lt l q),
-     ⊎-elim (λ a. a) (λ (a : r ≤ q). absurd (⊎-elim (λ (y : q ≡ r). not-both sr (holds-occ (ap S (sym y) ∙ z))) (λ n. let b = home-right κ ok r q k sr (omega arith) z in omega arith) (cases-eq q r))) (cases-lt q r))
 
 module _ {K : Type 0} {N : ℕ} (κ : Lawful K N) {T : ℕ → Content K} {M : ℕ → Bool} {O : ℕ → Owner} {ky : ℕ → K} {st : ℕ → Stage} {S : ℕ → Content K} (c : Core κ T M O ky st S) (s : ℕ) where
   module _ (l r u : ℕ) (e : st s ≡ Shift Leftward l r u) (d : Shifting-left κ T M S (ky s) l r (suc u)) where
