@@ -55,7 +55,8 @@ module _ {K : Type 0} {N : ℕ} (κ : Lawful K N) (k : K) (cs₀ : List (Cell K)
     look-quiet q Ended = let low = κ .place-low k in (q, omega arith)
     look-quiet q (Onward p) = q
 
-    left-quiet : (p : ℕ) → Quiet cs (Left p) → (b o : Bool) → marks cs p ≡ b → is-occupied (contents cs p) ≡ o → After (at-left (κ .kind .place k) p b o)
+    left-quiet : (p : ℕ) → Quiet cs (Left p) → (b o : Bool) → marks cs p ≡ b → is-occupied (contents cs p) ≡ o
+        → After (at-left (κ .kind .place k) p b o)
     left-quiet p q true o m e = q .0
     left-quiet p q false true m e = (q .0, let lt = q .1 in omega arith)
     left-quiet p q false false m e = (q .0, λ _. (m, e), let lt = q .1 in omega arith)
@@ -65,7 +66,8 @@ module _ {K : Type 0} {N : ℕ} (κ : Lawful K N) (k : K) (cs₀ : List (Cell K)
     right-quiet l p q false true m e = (q .0, q .1, let lt = q .2 in omega arith)
     right-quiet l p q false false m e = (q .0, q .1, λ _. (m, e), q .2)
 
-    first-quiet : (l r : ℕ) → Quiet cs (FirstMark l r) → (c b o : Bool) → cell N l ≡ c → marks cs l ≡ b → is-occupied (contents cs l) ≡ o → After (at-first l r c b o)
+    first-quiet : (l r : ℕ) → Quiet cs (FirstMark l r) → (c b o : Bool) → cell N l ≡ c → marks cs l ≡ b → is-occupied (contents cs l) ≡ o
+        → After (at-first l r c b o)
     first-quiet l r q false b o z m e = q .2
     first-quiet l r q true true o z m e = absurd (both-ways (marks cs l) (q .1 z .0) m)
     first-quiet l r q true false true z m e = absurd (both-ways (is-occupied (contents cs l)) (q .1 z .1) e)
@@ -73,7 +75,8 @@ module _ {K : Type 0} {N : ℕ} (κ : Lawful K N) (k : K) (cs₀ : List (Cell K)
         let lt = q .3 in
         (marks-elsewhere (with-mark true) l cs r (omega arith) ∙ q .2 x .0, ap is-occupied (contents-mark true l cs r) ∙ q .2 x .1)
 
-    second-quiet : (l r : ℕ) → Free cs r → (a c b o : Bool) → cell N r ≡ c → marks cs r ≡ b → is-occupied (contents cs r) ≡ o → After (at-second (κ .kind .place k) l r a c b o)
+    second-quiet : (l r : ℕ) → Free cs r → (a c b o : Bool) → cell N r ≡ c → marks cs r ≡ b → is-occupied (contents cs r) ≡ o
+        → After (at-second (κ .kind .place k) l r a c b o)
     second-quiet l r q a false b o z m e = tt
     second-quiet l r q a true true o z m e = absurd (both-ways (marks cs r) (q z .0) m)
     second-quiet l r q a true false true z m e = absurd (both-ways (is-occupied (contents cs r)) (q z .1) e)
@@ -112,7 +115,9 @@ module _ {K : Type 0} {N : ℕ} (κ : Lawful K N) (k : K) (cs₀ : List (Cell K)
     quiet-step (FirstMark l r) q = first-quiet l r q (cell N l) (marks cs l) (is-occupied (contents cs l)) refl refl refl
     quiet-step (SecondMark l r) q = second-quiet l r q (cell N l) (cell N r) (marks cs r) (is-occupied (contents cs r)) refl refl refl
     quiet-step (GiveBack g) q = absurd q
-    quiet-step (Check l r p) q = check-quiet l r (cell N l) (cell N r) (is-after (versus (κ .kind) k (contents cs (κ .kind .place k)))) (walk-at (κ .kind .place k) p (versus (κ .kind) k (contents cs p)))
+    quiet-step (Check l r p) q =
+        check-quiet l r (cell N l) (cell N r)
+          (is-after (versus (κ .kind) k (contents cs (κ .kind .place k)))) (walk-at (κ .kind .place k) p (versus (κ .kind) k (contents cs p)))
     quiet-step (Shift d l r g) q = shift-quiet d l r g (contents cs (beside d g))
     quiet-step (ReleaseLeft l r a) q = release-quiet l (cell N l) (ReleaseRight r a) (λ _. tt)
     quiet-step (ReleaseRight r a) q = release-quiet r (cell N r) (Answered a) (λ _. tt)
@@ -124,9 +129,11 @@ module _ {K : Type 0} {N : ℕ} (κ : Lawful K N) (k : K) (cs₀ : List (Cell K)
   alone-quiet (suc n) cs x q =
       let m = decision (κ .kind) cs k x in
       let q′ = quiet-step cs x q in
-      by-standing (cells-after (m .act) cs, m .next) (alone (κ .kind) n k (cells-after (m .act) cs) (m .next)) (standing (m .next)) q′ (alone-quiet n (cells-after (m .act) cs) (m .next) q′)
+      by-standing (cells-after (m .act) cs, m .next) (alone (κ .kind) n k (cells-after (m .act) cs) (m .next))
+        (standing (m .next)) q′ (alone-quiet n (cells-after (m .act) cs) (m .next) q′)
     where
-      by-standing : (a b : List (Cell K) × Stage) (y : Standing) → Quiet (a .0) (a .1) → Quiet (b .0) (b .1) → Quiet (ends-by y a b .0) (ends-by y a b .1)
+      by-standing : (a b : List (Cell K) × Stage) (y : Standing) → Quiet (a .0) (a .1) → Quiet (b .0) (b .1)
+          → Quiet (ends-by y a b .0) (ends-by y a b .1)
       by-standing a b resting p q = p
       by-standing a b homing p q = p
       by-standing a b under-way p q = q
@@ -144,5 +151,9 @@ module _ {K : Type 0} {N : ℕ} (κ : Lawful K N) (w : World K) (size : length (
       o : List (Cell K) × Stage
       o = alone (κ .kind) (enough N) k (w .cells) Home
       by-end : Ended-stage (o .1) → whole-answer (standing (o .1)) ≡ Err Barred → whole-entry-by w o .0 ≡ w
-      by-end (inl h) e = let q : o .0 ≡ w .cells = subst (Quiet κ k (w .cells) (o .0)) h (alone-quiet κ k (w .cells) (enough N) (w .cells) Home refl) in λ i. record { number = w .number; cells = q i; stations = w .stations }
-      by-end (inr h) e = let y : Ok (h .0) ≡ Err Barred = ap (λ x. whole-answer (standing x)) (sym (h .1)) ∙ e in let z : _≡_ {A = ℕ} 0 1 = cc in absurd (omega arith)
+      by-end (inl h) e =
+          let q : o .0 ≡ w .cells = subst (Quiet κ k (w .cells) (o .0)) h (alone-quiet κ k (w .cells) (enough N) (w .cells) Home refl) in
+          λ i. record { number = w .number; cells = q i; stations = w .stations }
+      by-end (inr h) e =
+          let y : Ok (h .0) ≡ Err Barred = ap (λ x. whole-answer (standing x)) (sym (h .1)) ∙ e in
+          let z : _≡_ {A = ℕ} 0 1 = cc in absurd (omega arith)

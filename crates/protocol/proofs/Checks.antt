@@ -75,9 +75,13 @@ module _ {K : Type 0} {N : ℕ} (κ : Lawful K N) {T : ℕ → Content K} {M : �
   half-apart t l r l′ r′ p n f g d a b a′ b′ =
       let hN = κ .place-high (ky s) in let hN′ = κ .place-high (ky t) in
       apart-by N p l r l′ r′
-        (⊎-elim (λ (z : 0 < l). inr (off-interval l l′ r′ (outside κ c s t l′ r′ l n g (f .own-l z) z (omega arith)))) (λ z. inl (omega arith)) (cases-lt 0 l))
+        (⊎-elim
+           (λ (z : 0 < l). inr (off-interval l l′ r′ (outside κ c s t l′ r′ l n g (f .own-l z) z (omega arith))))
+           (λ z. inl (omega arith)) (cases-lt 0 l))
         (⊎-elim inl (λ z. inr (off-interval r l′ r′ (clear κ c t l′ r′ r g (f .em z) (f .um z) (omega arith) z))) (cases-lt N r))
-        (⊎-elim (λ (z : 0 < l′). inr (off-interval l′ l r (half-outside t l r l′ n f (g .own-l z) z (omega arith)))) (λ z. inl (omega arith)) (cases-lt 0 l′))
+        (⊎-elim
+           (λ (z : 0 < l′). inr (off-interval l′ l r (half-outside t l r l′ n f (g .own-l z) z (omega arith))))
+           (λ z. inl (omega arith)) (cases-lt 0 l′))
         (⊎-elim inl (λ z. inr (off-interval r′ l r (half-outside t l r r′ n f (g .own-r z) (omega arith) z))) (cases-lt N r′))
         d (f .region .top) (g .region .top) a b a′ b′
 
@@ -86,13 +90,16 @@ module _ {K : Type 0} {N : ℕ} (κ : Lawful K N) {T : ℕ → Content K} {M : �
     -- once both boundaries are its own, nobody shifts in the region
     agreed : (r ≤ N → T r ≡ empty) → (r ≤ N → M r ≡ false) → (q : ℕ) → l ≤ q → q ≤ r → S q ≡ T q
     agreed em um q a b =
-        let f : Half l r = record { region = g; own-l = λ z. own κ c s (SecondMark l r) e l (hold-one N l l refl z (omega arith)); em = em; um = um } in
+        let f : Half l r = record
+          { region = g; own-l = λ z. own κ c s (SecondMark l r) e l (hold-one N l l refl z (omega arith)); em = em; um = um }
+          in
         ⊎-elim (λ z. z)
           (λ i. let w = around κ c (i .0) q (i .1) in
                 absurd (half-apart (i .0) l r (w .l) (w .r) q (λ y. subst (λ x. In-shift x q) (ap st (sym y) ∙ e) (i .1)) f (w .fenced) (w .some-cell) a b (w .l-p) (w .p-r)))
           (c .agree q)
 
-    checking : (M′ : ℕ → Bool) → Region κ T M′ (ky s) l r → T r ≡ empty → ((q : ℕ) → l ≤ q → q ≤ r → S q ≡ T q) → Checking κ T M′ S (ky s) l r (κ .kind .place (ky s))
+    checking : (M′ : ℕ → Bool) → Region κ T M′ (ky s) l r → T r ≡ empty → ((q : ℕ) → l ≤ q → q ≤ r → S q ≡ T q)
+        → Checking κ T M′ S (ky s) l r (κ .kind .place (ky s))
     checking M′ re er ag = record {
       region = re; el = el; er = er; agree = ag; l-p = omega arith; p-r = omega arith;
       afters = λ q a b. absurd (omega arith); befores = λ q a b. absurd (omega arith);
@@ -117,7 +124,8 @@ module _ {K : Type 0} {N : ℕ} (κ : Lawful K N) {T : ℕ → Content K} {M : �
           (checking (updated M r true) (region-mark κ r em g) em (agreed (λ y. em) (λ y. m))), tt)
 
   pub second-step : (l r : ℕ) → st s ≡ SecondMark l r → Done κ c s (decide (κ .kind) (ky s) (SecondMark l r) T M)
-  second-step l r e = let g = good-at κ c s (SecondMark l r) e in by-r l r e (g .0) (g .1) (κ .place-high (ky s)) (cell N r) (M r) (is-occupied (T r)) refl refl refl
+  second-step l r e =
+      let g = good-at κ c s (SecondMark l r) e in by-r l r e (g .0) (g .1) (κ .place-high (ky s)) (cell N r) (M r) (is-occupied (T r)) refl refl refl
 
   -- CHECK
   module _ (l r p : ℕ) (e : st s ≡ Check l r p) (g : Checking κ T M S (ky s) l r p) (hN : κ .kind .place (ky s) ≤ N) where
@@ -130,12 +138,16 @@ module _ {K : Type 0} {N : ℕ} (κ : Lawful K N) {T : ℕ → Content K} {M : �
     -- what the walk has passed is not k
     past-left : p < κ .kind .place (ky s) → (q : ℕ) → p < q → S q ≡ holds (ky s) → ⊥
     past-left a q b z =
-        ⊎-elim (λ (y : κ .kind .place (ky s) < q). no-right κ (c .sorted) (ky s) (κ .kind .place (ky s)) q (g .afters (κ .kind .place (ky s)) a (omega arith)) (omega arith) z)
+        ⊎-elim
+          (λ (y : κ .kind .place (ky s) < q).
+             no-right κ (c .sorted) (ky s) (κ .kind .place (ky s)) q (g .afters (κ .kind .place (ky s)) a (omega arith)) (omega arith) z)
           (λ y. no-right κ (c .sorted) (ky s) q q (g .afters q b y) (omega arith) z) (cases-lt (κ .kind .place (ky s)) q)
 
     past-right : κ .kind .place (ky s) < p → (q : ℕ) → q < p → S q ≡ holds (ky s) → ⊥
     past-right a q b z =
-        ⊎-elim (λ (y : q < κ .kind .place (ky s)). no-left κ (c .sorted) (ky s) (κ .kind .place (ky s)) q (g .befores (κ .kind .place (ky s)) (omega arith) a) (omega arith) z)
+        ⊎-elim
+          (λ (y : q < κ .kind .place (ky s)).
+             no-left κ (c .sorted) (ky s) (κ .kind .place (ky s)) q (g .befores (κ .kind .place (ky s)) (omega arith) a) (omega arith) z)
           (λ y. no-left κ (c .sorted) (ky s) q q (g .befores q y b) (omega arith) z) (cases-lt q (κ .kind .place (ky s)))
 
     s-here : (v : Versus) → versus (κ .kind) (ky s) (T p) ≡ v → versus (κ .kind) (ky s) (S p) ≡ v
@@ -146,39 +158,52 @@ module _ {K : Type 0} {N : ℕ} (κ : Lawful K N) {T : ℕ → Content K} {M : �
     absent-none em q z =
         let w = between-only κ (c .sorted) (ky s) l r q s-left s-right (g .region .l-h) (g .region .h-r) z in
         ⊎-elim (λ (y : l ≡ p). past-left (omega arith) q (omega arith) z)
-          (λ n. ⊎-elim (λ (y : r ≡ p). past-right (omega arith) q (omega arith) z) (λ n′. not-both em (g .region .solid p (omega arith) (omega arith) .1)) (cases-eq r p))
+          (λ n.
+             ⊎-elim (λ (y : r ≡ p). past-right (omega arith) q (omega arith) z)
+               (λ n′. not-both em (g .region .solid p (omega arith) (omega arith) .1))
+               (cases-eq r p))
           (cases-eq l p)
 
     absent-right : κ .kind .place (ky s) < p → versus (κ .kind) (ky s) (T p) ≡ is after → (q : ℕ) → S q ≡ holds (ky s) → ⊥
-    absent-right a v q z = ⊎-elim (λ (y : q < p). past-right a q y z) (λ y. no-right κ (c .sorted) (ky s) p q (s-here (is after) v) y z) (cases-lt q p)
+    absent-right a v q z =
+        ⊎-elim (λ (y : q < p). past-right a q y z) (λ y. no-right κ (c .sorted) (ky s) p q (s-here (is after) v) y z) (cases-lt q p)
 
     absent-left : p < κ .kind .place (ky s) → versus (κ .kind) (ky s) (T p) ≡ is before → (q : ℕ) → S q ≡ holds (ky s) → ⊥
     absent-left a v q z = ⊎-elim (λ (y : p < q). past-left a q y z) (λ y. no-left κ (c .sorted) (ky s) p q (s-here (is before) v) y z) (cases-lt p q)
 
     -- the end of the walk: the gap starts where one worker starts it
     module _ (no-key : (q : ℕ) → S q ≡ holds (ky s) → ⊥) where
-      from-r : cell N r ≡ true → (higher (κ .kind) (ky s) (S (κ .kind .place (ky s))) ≡ true) ⊎ (l ≡ 0) → Done κ c s (goes-to (Shift Leftward l r (pred r)))
+      from-r : cell N r ≡ true → (higher (κ .kind) (ky s) (S (κ .kind .place (ky s))) ≡ true) ⊎ (l ≡ 0)
+          → Done κ c s (goes-to (Shift Leftward l r (pred r)))
       from-r x z =
           let r-cell = cell-parts N r x in
           (still κ c s (Check l r p) (Shift Leftward l r (pred r)) e (λ q. refl) (λ q i. absurd i)
             (record {
               region = g .region; cell-r = r-cell .1; l-g = omega arith; g-r = omega arith; el = s-left; er = s-right;
-              absent = λ q a b. no-key q; kept = λ q a b. g .agree q a (omega arith); moved = λ q a b. absurd (omega arith); afters = λ q a b. absurd (omega arith);
+              absent =
+                λ q a b.
+                  no-key q; kept = λ q a b. g .agree q a (omega arith); moved = λ q a b. absurd (omega arith); afters = λ q a b. absurd (omega arith);
               chosen = side-right N l r (higher (κ .kind) (ky s) (S (κ .kind .place (ky s)))) (r-cell .1) z;
             }), tt)
 
-      from-l : cell N l ≡ true → (N < r) ⊎ ((higher (κ .kind) (ky s) (S (κ .kind .place (ky s))) ≡ false) × (0 < l)) → Done κ c s (goes-to (Shift Rightward l r (pred l)))
+      from-l : cell N l ≡ true → (N < r) ⊎ ((higher (κ .kind) (ky s) (S (κ .kind .place (ky s))) ≡ false) × (0 < l))
+          → Done κ c s (goes-to (Shift Rightward l r (pred l)))
       from-l x z =
           let l-cell = cell-parts N l x in
           (still κ c s (Check l r p) (Shift Rightward l r (pred l)) e (λ q. refl) (λ q i. absurd i)
             (record {
               region = g .region; cell-l = l-cell .0; l-g = omega arith; g-r = omega arith; el = s-left; er = s-right;
-              absent = λ q a b. no-key q; kept = λ q a b. g .agree q (omega arith) b; moved = λ q a b. absurd (omega arith); befores = λ q a b. absurd (omega arith);
+              absent =
+                λ q a b.
+                  no-key q; kept =
+                      λ q a b. g .agree q (omega arith) b; moved = λ q a b. absurd (omega arith); befores = λ q a b. absurd (omega arith);
               chosen = side-left N l r (higher (κ .kind) (ky s) (S (κ .kind .place (ky s)))) z;
             }), tt)
 
       s-home : higher (κ .kind) (ky s) (S (κ .kind .place (ky s))) ≡ is-after (versus (κ .kind) (ky s) (T (κ .kind .place (ky s))))
-      s-home = higher-is κ (ky s) (S (κ .kind .place (ky s))) ∙ ap (λ x. is-after (versus (κ .kind) (ky s) x)) (g .agree (κ .kind .place (ky s)) (omega arith) (omega arith))
+      s-home =
+          higher-is κ (ky s) (S (κ .kind .place (ky s)))
+          ∙ ap (λ x. is-after (versus (κ .kind) (ky s) x)) (g .agree (κ .kind .place (ky s)) (omega arith) (omega arith))
 
       off-left : cell N l ≡ false → l ≡ 0
       off-left x = ⊎-elim (λ z. z) (λ (z : N < l). absurd (omega arith)) (no-cell N l x)
@@ -186,18 +211,21 @@ module _ {K : Type 0} {N : ℕ} (κ : Lawful K N) {T : ℕ → Content K} {M : �
       off-right : cell N r ≡ false → N < r
       off-right x = ⊎-elim (λ (z : r ≡ 0). absurd (omega arith)) (λ z. z) (no-cell N r x)
 
-      walk-over : (x y b : Bool) → cell N l ≡ x → cell N r ≡ y → is-after (versus (κ .kind) (ky s) (T (κ .kind .place (ky s)))) ≡ b → Done κ c s (absent l r x y b)
+      walk-over : (x y b : Bool) → cell N l ≡ x → cell N r ≡ y → is-after (versus (κ .kind) (ky s) (T (κ .kind .place (ky s)))) ≡ b
+          → Done κ c s (absent l r x y b)
       walk-over false false b x y z =
           let l-edge = off-left x in let r-edge = off-right y in
           told κ c s (Check l r p) (ReleaseLeft l r Full) Full e (λ q. refl) (λ q i. absurd i) (omega arith)
-            (worker-full κ S (ky s) no-key (λ q a b. ap is-occupied (g .agree q (omega arith) (omega arith)) ∙ g .region .solid q (omega arith) (omega arith) .1))
+            (worker-full κ S (ky s) no-key
+               (λ q a b. ap is-occupied (g .agree q (omega arith) (omega arith)) ∙ g .region .solid q (omega arith) (omega arith) .1))
             (λ z. let n : _≡_ {A = ℕ} 0 1 = cc in omega arith)
       walk-over false true b x y z = from-r y (inr (off-left x))
       walk-over true false b x y z = from-l x (inl (off-right y))
       walk-over true true true x y z = from-r y (inl (s-home ∙ z))
       walk-over true true false x y z = from-l x (inr (s-home ∙ z, cell-parts N l x .0))
 
-    ended : ((q : ℕ) → S q ≡ holds (ky s) → ⊥) → Done κ c s (absent l r (cell N l) (cell N r) (is-after (versus (κ .kind) (ky s) (T (κ .kind .place (ky s))))))
+    ended : ((q : ℕ) → S q ≡ holds (ky s) → ⊥)
+        → Done κ c s (absent l r (cell N l) (cell N r) (is-after (versus (κ .kind) (ky s) (T (κ .kind .place (ky s))))))
     ended no-key = walk-over no-key (cell N l) (cell N r) (is-after (versus (κ .kind) (ky s) (T (κ .kind .place (ky s))))) refl refl refl
 
     -- an occupied place lies between the boundaries
@@ -213,7 +241,11 @@ module _ {K : Type 0} {N : ℕ} (κ : Lawful K N) {T : ℕ → Content K} {M : �
         (still κ c s (Check l r p) (Check l r (pred p)) e (λ q. refl) (λ q i. absurd i)
           (record {
             region = g .region; el = g .el; er = g .er; agree = g .agree; l-p = omega arith; p-r = omega arith;
-            afters = λ q x y. ⊎-elim (λ (w : p ≡ q). ap (λ j. versus (κ .kind) (ky s) (S j)) (sym w) ∙ s-here (is after) v) (λ n. g .afters q (omega arith) y) (cases-eq p q);
+            afters =
+              λ q x y.
+                ⊎-elim
+                  (λ (w : p ≡ q). ap (λ j. versus (κ .kind) (ky s) (S j)) (sym w) ∙ s-here (is after) v)
+                  (λ n. g .afters q (omega arith) y) (cases-eq p q);
             befores = λ q x y. absurd (omega arith);
           }), tt)
 
@@ -224,7 +256,11 @@ module _ {K : Type 0} {N : ℕ} (κ : Lawful K N) {T : ℕ → Content K} {M : �
           (record {
             region = g .region; el = g .el; er = g .er; agree = g .agree; l-p = omega arith; p-r = omega arith;
             afters = λ q x y. absurd (omega arith);
-            befores = λ q x y. ⊎-elim (λ (w : p ≡ q). ap (λ j. versus (κ .kind) (ky s) (S j)) (sym w) ∙ s-here (is before) v) (λ n. g .befores q x (omega arith)) (cases-eq p q);
+            befores =
+              λ q x y.
+                ⊎-elim
+                  (λ (w : p ≡ q). ap (λ j. versus (κ .kind) (ky s) (S j)) (sym w) ∙ s-here (is before) v)
+                  (λ n. g .befores q x (omega arith)) (cases-eq p q);
           }), tt)
 
     abbrev After : Walk → Type 0
@@ -232,7 +268,8 @@ module _ {K : Type 0} {N : ℕ} (κ : Lawful K N) {T : ℕ → Content K} {M : �
 
     by-content : (v : Versus) → versus (κ .kind) (ky s) (T p) ≡ v → After (walk-at (κ .kind .place (ky s)) p v)
     by-content none z = ended (absent-none (versus-none κ (ky s) (T p) z))
-    by-content (is same) z = found-at κ c s (Check l r p) (ReleaseLeft l r Found) p e (λ q. refl) (λ q i. absurd i) (omega arith) (versus-same κ (ky s) (T p) z)
+    by-content (is same) z =
+        found-at κ c s (Check l r p) (ReleaseLeft l r Found) p e (λ q. refl) (λ q i. absurd i) (omega arith) (versus-same κ (ky s) (T p) z)
     by-content (is after) z = by-test (leb p (κ .kind .place (ky s))) refl
       where
         by-test : (b : Bool) → leb p (κ .kind .place (ky s)) ≡ b → After (cond b (Onward (pred p)) Ended)

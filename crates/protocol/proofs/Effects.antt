@@ -105,7 +105,8 @@ module _ {K : Type 0} {N : ℕ} (κ : Kind K N) where
   once k (FirstMark l r) T M = first-once l r (cell N l) (M l) (is-occupied (T l))
   once k (SecondMark l r) T M = second-once (κ .place k) l r (cell N l) (cell N r) (M r) (is-occupied (T r))
   once k (GiveBack g) T M = (inl refl, refl)
-  once k (Check l r p) T M = check-once l r p (cell N l) (cell N r) (is-after (versus κ k (T (κ .place k)))) (walk-at (κ .place k) p (versus κ k (T p)))
+  once k (Check l r p) T M =
+      check-once l r p (cell N l) (cell N r) (is-after (versus κ k (T (κ .place k)))) (walk-at (κ .place k) p (versus κ k (T p)))
   once k (Shift d l r g) T M = shift-once k d l r g (T (beside d g))
   once k (ReleaseLeft l r a) T M = release-once (ReleaseLeft l r a) (ReleaseRight r a) refl l (cell N l)
   once k (ReleaseRight r a) T M = release-once (ReleaseRight r a) (Answered a) refl r (cell N r)
@@ -114,4 +115,5 @@ module _ {K : Type 0} {N : ℕ} (κ : Kind K N) where
 pub noted-once : {K : Type 0} (k : K) (es : List (K × Answer)) (e old new : Effect) → Once e old new → noted k e (noted k old es) ≡ noted k new es
 noted-once k es nothing old new o = ap (λ x. noted k x es) (o .1)
 noted-once k es (took a) nothing new o = ap (λ x. noted k x es) (o .1)
-noted-once k es (took a) (took b) new o = ⊎-elim (λ e. let z : _≡_ {A = ℕ} 0 1 = cc in absurd (omega arith)) (λ e. let z : _≡_ {A = ℕ} 0 1 = cc in absurd (omega arith)) (o .0)
+noted-once k es (took a) (took b) new o =
+    ⊎-elim (λ e. let z : _≡_ {A = ℕ} 0 1 = cc in absurd (omega arith)) (λ e. let z : _≡_ {A = ℕ} 0 1 = cc in absurd (omega arith)) (o .0)

@@ -30,11 +30,14 @@ dist-left N h p lt = cond-true (ltb p h) p (cond (ltb h p) (suc N - p) (N + 2)) 
 
 dist-right : (N h p : ℕ) → h < p → dist N h p ≡ suc N - p
 unfolding dist
-dist-right N h p lt = cond-false (ltb p h) p (cond (ltb h p) (suc N - p) (N + 2)) (le-ltb p h (omega arith)) ∙ cond-true (ltb h p) (suc N - p) (N + 2) (lt-ltb h p lt)
+dist-right N h p lt =
+    cond-false (ltb p h) p (cond (ltb h p) (suc N - p) (N + 2)) (le-ltb p h (omega arith)) ∙ cond-true (ltb h p) (suc N - p) (N + 2) (lt-ltb h p lt)
 
 dist-home : (N h p : ℕ) → h ≡ p → dist N h p ≡ N + 2
 unfolding dist
-dist-home N h p e = cond-false (ltb p h) p (cond (ltb h p) (suc N - p) (N + 2)) (le-ltb p h (omega arith)) ∙ cond-false (ltb h p) (suc N - p) (N + 2) (le-ltb h p (omega arith))
+dist-home N h p e =
+    cond-false (ltb p h) p (cond (ltb h p) (suc N - p) (N + 2)) (le-ltb p h (omega arith))
+    ∙ cond-false (ltb h p) (suc N - p) (N + 2) (le-ltb h p (omega arith))
 
 -- steps left at most
 unfoldable pub left-over : ℕ → ℕ → Stage → ℕ
@@ -81,37 +84,58 @@ module _ {K : Type 0} {N : ℕ} (κ : Lawful K N) (k : K) where
     home-f true v e = inl refl
     home-f false none e = inr (tt, omega arith, refl)
     home-f false (is same) e = inr (tt, omega arith, refl)
-    home-f false (is after) e = let a = κ .place-low k in let b = κ .place-high k in let d = dist-left N (κ .kind .place k) (pred (κ .kind .place k)) (omega arith) in inr (tt, omega arith, refl)
-    home-f false (is before) e = let b = κ .place-high k in let d = dist-right N (κ .kind .place k) (suc (κ .kind .place k)) (omega arith) in inr (tt, omega arith, refl)
+    home-f false (is after) e =
+        let a = κ .place-low k in
+        let b = κ .place-high k in let d = dist-left N (κ .kind .place k) (pred (κ .kind .place k)) (omega arith) in inr (tt, omega arith, refl)
+    home-f false (is before) e =
+        let b = κ .place-high k in let d = dist-right N (κ .kind .place k) (suc (κ .kind .place k)) (omega arith) in inr (tt, omega arith, refl)
 
     -- a walk that goes on comes nearer
-    nearer-left : (p : ℕ) → versus (κ .kind) k (T p) ≡ is after → p ≤ κ .kind .place k → dist N (κ .kind .place k) (pred p) < dist N (κ .kind .place k) p
+    nearer-left : (p : ℕ) → versus (κ .kind) k (T p) ≡ is after → p ≤ κ .kind .place k
+        → dist N (κ .kind .place k) (pred p) < dist N (κ .kind .place k) p
     nearer-left p v le =
         let i = inside p (versus-occ κ k (T p) after v) in let b = κ .place-high k in
         let d = dist-left N (κ .kind .place k) (pred p) (omega arith) in
-        ⊎-elim (λ (a : p < κ .kind .place k). let e = dist-left N (κ .kind .place k) p a in omega arith) (λ a. let e = dist-home N (κ .kind .place k) p (omega arith) in omega arith) (cases-lt p (κ .kind .place k))
+        ⊎-elim
+          (λ (a : p < κ .kind .place k). let e = dist-left N (κ .kind .place k) p a in omega arith)
+          (λ a. let e = dist-home N (κ .kind .place k) p (omega arith) in omega arith)
+          (cases-lt p (κ .kind .place k))
 
-    nearer-right : (p : ℕ) → versus (κ .kind) k (T p) ≡ is before → κ .kind .place k ≤ p → dist N (κ .kind .place k) (suc p) < dist N (κ .kind .place k) p
+    nearer-right : (p : ℕ) → versus (κ .kind) k (T p) ≡ is before → κ .kind .place k ≤ p
+        → dist N (κ .kind .place k) (suc p) < dist N (κ .kind .place k) p
     nearer-right p v le =
         let i = inside p (versus-occ κ k (T p) before v) in
         let d = dist-right N (κ .kind .place k) (suc p) (omega arith) in
-        ⊎-elim (λ (a : κ .kind .place k < p). let e = dist-right N (κ .kind .place k) p a in omega arith) (λ a. let e = dist-home N (κ .kind .place k) p (omega arith) in omega arith) (cases-lt (κ .kind .place k) p)
+        ⊎-elim
+          (λ (a : κ .kind .place k < p). let e = dist-right N (κ .kind .place k) p a in omega arith)
+          (λ a. let e = dist-home N (κ .kind .place k) p (omega arith) in omega arith)
+          (cases-lt (κ .kind .place k) p)
 
-    walk-f : (p : ℕ) (v : Versus) → versus (κ .kind) k (T p) ≡ v → (q : ℕ) → walk-at (κ .kind .place k) p v ≡ Onward q → dist N (κ .kind .place k) q < dist N (κ .kind .place k) p
+    walk-f : (p : ℕ) (v : Versus) → versus (κ .kind) k (T p) ≡ v → (q : ℕ) → walk-at (κ .kind .place k) p v ≡ Onward q
+        → dist N (κ .kind .place k) q < dist N (κ .kind .place k) p
     walk-f p none e q w = let z : _≡_ {A = ℕ} 0 1 = cc in absurd (omega arith)
     walk-f p (is same) e q w = let z : _≡_ {A = ℕ} 0 1 = cc in absurd (omega arith)
     walk-f p (is after) e q w = by-test (leb p (κ .kind .place k)) refl w
       where
-        by-test : (b : Bool) → leb p (κ .kind .place k) ≡ b → cond b (Onward (pred p)) Ended ≡ Onward q → dist N (κ .kind .place k) q < dist N (κ .kind .place k) p
-        by-test true t w = subst (λ y. dist N (κ .kind .place k) y < dist N (κ .kind .place k) p) (let z : pred p ≡ q = cc in z) (nearer-left p e (leb-true p (κ .kind .place k) t))
+        by-test : (b : Bool) → leb p (κ .kind .place k) ≡ b → cond b (Onward (pred p)) Ended ≡ Onward q
+            → dist N (κ .kind .place k) q < dist N (κ .kind .place k) p
+        by-test true t w =
+            subst
+              (λ y. dist N (κ .kind .place k) y < dist N (κ .kind .place k) p) (let z : pred p ≡ q = cc in z)
+              (nearer-left p e (leb-true p (κ .kind .place k) t))
         by-test false t w = let z : _≡_ {A = ℕ} 0 1 = cc in absurd (omega arith)
     walk-f p (is before) e q w = by-test (leb (κ .kind .place k) p) refl w
       where
-        by-test : (b : Bool) → leb (κ .kind .place k) p ≡ b → cond b (Onward (suc p)) Ended ≡ Onward q → dist N (κ .kind .place k) q < dist N (κ .kind .place k) p
-        by-test true t w = subst (λ y. dist N (κ .kind .place k) y < dist N (κ .kind .place k) p) (let z : suc p ≡ q = cc in z) (nearer-right p e (leb-true (κ .kind .place k) p t))
+        by-test : (b : Bool) → leb (κ .kind .place k) p ≡ b → cond b (Onward (suc p)) Ended ≡ Onward q
+            → dist N (κ .kind .place k) q < dist N (κ .kind .place k) p
+        by-test true t w =
+            subst
+              (λ y. dist N (κ .kind .place k) y < dist N (κ .kind .place k) p) (let z : suc p ≡ q = cc in z)
+              (nearer-right p e (leb-true (κ .kind .place k) p t))
         by-test false t w = let z : _≡_ {A = ℕ} 0 1 = cc in absurd (omega arith)
 
-    look-f : (p : ℕ) (w : Walk) → ((q : ℕ) → w ≡ Onward q → dist N (κ .kind .place k) q < dist N (κ .kind .place k) p) → Falls (Look p) (at-look {K = K} (κ .kind .place k) w .next)
+    look-f : (p : ℕ) (w : Walk) → ((q : ℕ) → w ≡ Onward q → dist N (κ .kind .place k) q < dist N (κ .kind .place k) p)
+        → Falls (Look p) (at-look {K = K} (κ .kind .place k) w .next)
     unfolding Falls Wide left-over
     look-f p Here f = inr (tt, omega arith, refl)
     look-f p Ended f = let b = κ .place-high k in inr (omega arith, omega arith, refl)
@@ -156,13 +180,16 @@ module _ {K : Type 0} {N : ℕ} (κ : Lawful K N) (k : K) where
     absent-f l r p le true true true = inr (tt, omega arith, refl)
     absent-f l r p le true true false = inr (tt, omega arith, refl)
 
-    check-f : (l r p : ℕ) → r ≤ suc N → (x y b : Bool) (w : Walk) → ((q : ℕ) → w ≡ Onward q → dist N (κ .kind .place k) q < dist N (κ .kind .place k) p) → Falls (Check l r p) (at-check {K = K} l r x y b w .next)
+    check-f : (l r p : ℕ) → r ≤ suc N → (x y b : Bool) (w : Walk)
+        → ((q : ℕ) → w ≡ Onward q → dist N (κ .kind .place k) q < dist N (κ .kind .place k) p)
+        → Falls (Check l r p) (at-check {K = K} l r x y b w .next)
     unfolding Falls Wide left-over
     check-f l r p le x y b Here f = inr (tt, omega arith, refl)
     check-f l r p le x y b Ended f = absent-f l r p le x y b
     check-f l r p le x y b (Onward q) f = let d = f q refl in inr (le, omega arith, refl)
 
-    copied-f : (d : Direction) (l r g : ℕ) (x : K) → is-occupied (T (beside d g)) ≡ true → (b : Bool) → Falls (Shift d l r g) (copied k d l r g x b .next)
+    copied-f : (d : Direction) (l r g : ℕ) (x : K) → is-occupied (T (beside d g)) ≡ true → (b : Bool)
+        → Falls (Shift d l r g) (copied k d l r g x b .next)
     unfolding Falls Wide left-over
     copied-f Leftward l r g x o true = let i = inside g o in let z : pred g + 4 < g + 4 = omega arith in inr (tt, z, refl)
     copied-f Leftward l r g x o false = inr (tt, omega arith, refl)
@@ -198,7 +225,9 @@ module _ {K : Type 0} {N : ℕ} (κ : Lawful K N) (k : K) where
     falls (FirstMark l r) b w = first-f l r w (cell N l) (M l) (is-occupied (T l))
     falls (SecondMark l r) b w = second-f l r w (cell N l) (cell N r) (M r) (is-occupied (T r))
     falls (GiveBack g) b w = inl refl
-    falls (Check l r p) b w = check-f l r p w (cell N l) (cell N r) (is-after (versus (κ .kind) k (T (κ .kind .place k)))) (walk-at (κ .kind .place k) p (versus (κ .kind) k (T p))) (walk-f p (versus (κ .kind) k (T p)) refl)
+    falls (Check l r p) b w =
+        check-f l r p w (cell N l) (cell N r) (is-after (versus (κ .kind) k (T (κ .kind .place k))))
+          (walk-at (κ .kind .place k) p (versus (κ .kind) k (T p))) (walk-f p (versus (κ .kind) k (T p)) refl)
     falls (Shift d l r g) b w = shift-f d l r g (T (beside d g)) refl
     falls (ReleaseLeft l r a) b w = release-f l r a (cell N l)
     falls (ReleaseRight r a) b w = release-r-f r a (cell N r)
@@ -222,7 +251,8 @@ module _ {K : Type 0} {N : ℕ} (κ : Lawful K N) (k : K) where
   positive (Answered a) b = absurd (both-ways false refl b)
 
   -- so its steps are over before their number is
-  pub alone-ends : (n : ℕ) (cs : List (Cell K)) (x : Stage) → length cs ≡ N → busy x ≡ true → Wide N x → left-over N (κ .kind .place k) x ≤ n → Ended-stage (alone (κ .kind) n k cs x .1)
+  pub alone-ends : (n : ℕ) (cs : List (Cell K)) (x : Stage) → length cs ≡ N → busy x ≡ true → Wide N x → left-over N (κ .kind .place k) x ≤ n
+      → Ended-stage (alone (κ .kind) n k cs x .1)
   unfolding alone Falls
   alone-ends zero cs x size b w le = let z = positive x b in absurd (omega arith)
   alone-ends (suc n) cs x size b w le =
@@ -234,7 +264,8 @@ module _ {K : Type 0} {N : ℕ} (κ : Lawful K N) (k : K) where
           (λ u. alone-ends n after-it (m .next) (length-after (m .act) cs ∙ size) u (f .0) (omega arith)))
         (falls (contents cs) (marks cs) (contents-inside cs N size) x b w)
     where
-      by-standing : (cs : List (Cell K)) (x : Stage) (o : List (Cell K) × Stage) (y : Standing) → Told x y → standing x ≡ y → is-idle x ≡ false → (busy x ≡ true → Ended-stage (o .1)) → Ended-stage (ends-by y (cs, x) o .1)
+      by-standing : (cs : List (Cell K)) (x : Stage) (o : List (Cell K) × Stage) (y : Standing) → Told x y → standing x ≡ y → is-idle x ≡ false
+          → (busy x ≡ true → Ended-stage (o .1)) → Ended-stage (ends-by y (cs, x) o .1)
       by-standing cs x o resting t e i h = absurd (both-ways (is-idle x) i (ap idle-by e))
       by-standing cs x o homing t e i h = inl t
       by-standing cs x o under-way t e i h = h (ap busy-by e)

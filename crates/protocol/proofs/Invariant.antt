@@ -87,13 +87,17 @@ module _ {K : Type 0} {N : ℕ} (κ : Lawful K N) where
   abbrev pub Right-answer : K → Effect → (ℕ → Content K) → Type 0
   Right-answer k nothing S = Unit {0}
   Right-answer k (took a) S =
-      (one-worker (κ .kind) S k .1 ≡ a) × ((x : K) (p : ℕ) → S p ≡ holds x → (q : ℕ) × (one-worker (κ .kind) S k .0 q ≡ holds x)) × (a ≡ Inserted → (q : ℕ) × (one-worker (κ .kind) S k .0 q ≡ holds k))
+      (one-worker (κ .kind) S k .1 ≡ a) ×
+        ((x : K) (p : ℕ) → S p ≡ holds x → (q : ℕ) × (one-worker (κ .kind) S k .0 q ≡ holds x))
+        × (a ≡ Inserted → (q : ℕ) × (one-worker (κ .kind) S k .0 q ≡ holds k))
 
   pub answer-told : (k : K) (S : ℕ → Content K) (a : Answer) → one-worker (κ .kind) S k ≡ (S, a) → (a ≡ Inserted → ⊥) → Right-answer k (took a) S
   answer-told k S a w n = (ap (λ z. z .1) w, λ x p h. (p, ap (λ z. z .0 p) w ∙ h), λ e. absurd (n e))
 
-  pub answer-new : (k : K) (S S′ : ℕ → Content K) → one-worker (κ .kind) S k ≡ (S′, Inserted) → ((x : K) (p : ℕ) → S p ≡ holds x → (q : ℕ) × (S′ q ≡ holds x)) → (q : ℕ) → S′ q ≡ holds k → Right-answer k (took Inserted) S
-  answer-new k S S′ w keep q new = (ap (λ z. z .1) w, λ x p h. let y = keep x p h in (y .0, ap (λ z. z .0 (y .0)) w ∙ y .1), λ e. (q, ap (λ z. z .0 q) w ∙ new))
+  pub answer-new : (k : K) (S S′ : ℕ → Content K) → one-worker (κ .kind) S k ≡ (S′, Inserted)
+      → ((x : K) (p : ℕ) → S p ≡ holds x → (q : ℕ) × (S′ q ≡ holds x)) → (q : ℕ) → S′ q ≡ holds k → Right-answer k (took Inserted) S
+  answer-new k S S′ w keep q new =
+      (ap (λ z. z .1) w, λ x p h. let y = keep x p h in (y .0, ap (λ z. z .0 (y .0)) w ∙ y .1), λ e. (q, ap (λ z. z .0 q) w ∙ new))
 
   pub record Region (T : ℕ → Content K) (M : ℕ → Bool) (k : K) (l r : ℕ) : Type 0 where
     pub l-h : l < κ .kind .place k
@@ -167,14 +171,19 @@ module _ {K : Type 0} {N : ℕ} (κ : Lawful K N) where
 
   -- marking an empty place leaves a region solid
   pub region-mark : {T : ℕ → Content K} {M : ℕ → Bool} {k : K} {l r : ℕ} (p : ℕ) → T p ≡ empty → Region T M k l r → Region T (updated M p true) k l r
-  region-mark {T} {M} p em g = record { l-h = g .l-h; h-r = g .h-r; top = g .top; solid = λ q x y. let z = g .solid q x y in (updated-other M p q true (λ i. not-both (sym (ap T i) ∙ em) (z .1)) ∙ z .0, z .1) }
+  region-mark {T} {M} p em g =
+      record {
+        l-h = g .l-h; h-r = g .h-r; top = g .top;
+        solid = λ q x y. let z = g .solid q x y in (updated-other M p q true (λ i. not-both (sym (ap T i) ∙ em) (z .1)) ∙ z .0, z .1);
+      }
 
   -- what others' turns do to a station's knowledge
   module _ (T T′ : ℕ → Content K) (M M′ : ℕ → Bool) (solid : (p : ℕ) → Solid T M p → Solid T′ M′ p) where
     pub region-stable : {k : K} {l r : ℕ} → Region T M k l r → Region T′ M′ k l r
     region-stable g = record { l-h = g .l-h; h-r = g .h-r; top = g .top; solid = λ p a b. solid p (g .solid p a b) }
 
-    pub good-stable : (S S′ : ℕ → Content K) (k : K) (x : Stage) → ((p : ℕ) → Keeps x p → (T′ p ≡ T p) × (S′ p ≡ S p)) → Good T M S k x → Good T′ M′ S′ k x
+    pub good-stable : (S S′ : ℕ → Content K) (k : K) (x : Stage) → ((p : ℕ) → Keeps x p → (T′ p ≡ T p) × (S′ p ≡ S p)) → Good T M S k x
+        → Good T′ M′ S′ k x
     good-stable S S′ k Idle keep g = tt
     good-stable S S′ k Home keep g = tt
     good-stable S S′ k (Look p) keep g = solid (κ .kind .place k) g
@@ -229,7 +238,8 @@ module _ {K : Type 0} {N : ℕ} (κ : Lawful K N) where
     good-stable S S′ k (ReleaseRight r a) keep g = tt
     good-stable S S′ k (Answered a) keep g = tt
 
-  pub marked-by : {T : ℕ → Content K} {M : ℕ → Bool} {O : ℕ → Owner} {ky : ℕ → K} {st : ℕ → Stage} {S : ℕ → Content K} → Core T M O ky st S → (p t : ℕ) → O p ≡ by t → M p ≡ true
+  pub marked-by : {T : ℕ → Content K} {M : ℕ → Bool} {O : ℕ → Owner} {ky : ℕ → K} {st : ℕ → Stage} {S : ℕ → Content K} → Core T M O ky st S
+      → (p t : ℕ) → O p ≡ by t → M p ≡ true
   marked-by c p t e = c .marks p ∙ ap taken e
 
   module _ {T : ℕ → Content K} {M : ℕ → Bool} {O : ℕ → Owner} {ky : ℕ → K} {st : ℕ → Stage} {S : ℕ → Content K} (c : Core T M O ky st S) (s : ℕ) where
@@ -256,7 +266,9 @@ module _ {K : Type 0} {N : ℕ} (κ : Lawful K N) where
           marks = mk;
           good = λ t. ⊎-elim
             (λ (e : s ≡ t). subst (λ x. Good T′ M′ S′ (ky t) x) (sym (updated-at st s t next e)) (subst (λ i. Good T′ M′ S′ (ky i) next) e gd))
-            (λ n. subst (λ x. Good T′ M′ S′ (ky t) x) (sym (updated-other st s t next n)) (good-stable T T′ M M′ so S S′ (ky t) (st t) (λ p h. keep t p n h) (c .good t)))
+            (λ n.
+               subst (λ x. Good T′ M′ S′ (ky t) x) (sym (updated-other st s t next n))
+                 (good-stable T T′ M M′ so S S′ (ky t) (st t) (λ p h. keep t p n h) (c .good t)))
             (cases-eq s t);
           agree = λ p. ⊎-elim inl (⊎-elim
             (λ h. inr (h .0, subst (λ x. In-shift x p) (sym (updated-other st s (h .0) next (h .1))) (h .2)))
@@ -265,12 +277,17 @@ module _ {K : Type 0} {N : ℕ} (κ : Lawful K N) where
         }
 
     -- where the cells and the table stay
-    pub agree-still : (x next : Stage) → st s ≡ x → ((p : ℕ) → In-shift x p → In-shift next p) → (p : ℕ) → (S p ≡ T p) ⊎ (((t : ℕ) × (s ≢ t) × In-shift (st t) p) ⊎ In-shift next p)
+    pub agree-still : (x next : Stage) → st s ≡ x → ((p : ℕ) → In-shift x p → In-shift next p) → (p : ℕ)
+        → (S p ≡ T p) ⊎ (((t : ℕ) × (s ≢ t) × In-shift (st t) p) ⊎ In-shift next p)
     agree-still x next e sh p = ⊎-elim inl
-        (λ h. ⊎-elim (λ (q : s ≡ h .0). inr (inr (sh p (subst (λ y. In-shift y p) (ap st (sym q) ∙ e) (h .1))))) (λ n. inr (inl (h .0, n, h .1))) (cases-eq s (h .0)))
+        (λ h.
+           ⊎-elim
+             (λ (q : s ≡ h .0). inr (inr (sh p (subst (λ y. In-shift y p) (ap st (sym q) ∙ e) (h .1)))))
+             (λ n. inr (inl (h .0, n, h .1))) (cases-eq s (h .0)))
         (c .agree p)
 
-    pub still : (x next : Stage) → st s ≡ x → ((p : ℕ) → holder N next p ≡ holder N x p) → ((p : ℕ) → In-shift x p → In-shift next p) → Good T M S (ky s) next → Core T M O ky (updated st s next) S
+    pub still : (x next : Stage) → st s ≡ x → ((p : ℕ) → holder N next p ≡ holder N x p) → ((p : ℕ) → In-shift x p → In-shift next p)
+        → Good T M S (ky s) next → Core T M O ky (updated st s next) S
     still x next e ho sh gd =
         make T M O S next (c .edge-low) (c .edge-high)
           (λ p. ho p ∙ ap (λ y. holder N y p) (sym e) ∙ c .owned s p) (λ t p n. refl) (c .marks) (λ p a. a) (λ t p n h. (refl, refl)) gd

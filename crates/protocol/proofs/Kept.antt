@@ -1,6 +1,6 @@
 -- The invariant over the lists of cells and records, kept by beginning, stepping, collecting and withdrawing.
 use mathlib.Core.Path.{_≡_, refl, sym, ap, _∙_, subst}
-use mathlib.Core.Logic.{_⊎_, inl, inr, ⊎-elim, _≢_}
+use mathlib.Core.Logic.{_⊎_, ⊎-elim, _≢_}
 use mathlib.Core.Bool.{Bool, true, false, cond, not, _||_}
 use mathlib.Core.List.{List}
 use Prim.Native.Nat.{ℕ, _<_}
@@ -8,30 +8,30 @@ use native.Mathlib.Omega.{arith}
 use lib.Dec.{eqb}
 use lib.ListN.{length, set, length-set}
 use Rattle.std.proofs.shelf.Tests.{cases-eq, both-ways, not-false}
-use Rattle.protocol.specs.declared.Cell.{Cell}
 use Rattle.protocol.specs.declared.Station.{Station}
 use Rattle.protocol.specs.Refusals.{numberOf}
-use Rattle.protocol.specs.Cells.{Content, empty, holds, cell, updated, nth, contents, marks, cells-after}
+use Rattle.protocol.specs.Cells.{Content, empty, holds, cell, updated, nth, contents, marks}
 use Rattle.protocol.specs.Stages.{Stage, Idle, Answered, Standing, resting, homing, under-way, done, standing, busy, is-idle, settled, held-by, holds-mark, names-cells}
-use Rattle.protocol.specs.Step.{Effect, nothing, Decision, decide}
+use Rattle.protocol.specs.Step.{Effect, nothing, Decision}
 use Rattle.protocol.specs.Calls.{Ok, Err, Refusal, WrongSize, OtherRegister, NoStation, NotIdle, NoEntry, NoCell, Progress, World, bad-size, bad-count, Out, refused-if, for-record, at-station, put-record, fresh, idled, leaving, beginning, collecting-at, collecting, withdrawing-at, withdrawing, stepped-record, stepping-by, decision, stepping}
 use Rattle.protocol.specs.Turns.{Turn, begin, step, collect, withdraw, Reply, Log, latest, watched, log-at, logged-over}
 use Rattle.protocol.proofs.Lawful.{Lawful}
 use Rattle.protocol.proofs.Updates.{updated-same, updated-at, updated-other, updated-all}
 use Rattle.protocol.proofs.Standings.{Told, stage-is, idle-is, settled-same, busy-not-idle, finish-is}
 use Rattle.protocol.proofs.Holding.{holder-cell}
-use Rattle.protocol.proofs.State.{State, contents-after, marks-after, with-station, step-by, stepped}
+use Rattle.protocol.proofs.State.{State, contents-after, marks-after, with-station, step-by, step-with, stepped}
 use Rattle.protocol.proofs.Invariant.{Owner, free, by, taken, is-by, is-by-self}
 use Rattle.protocol.proofs.Effects.{given, once}
 use Rattle.protocol.proofs.Named.{named-settled, named-kept}
-use Rattle.protocol.proofs.Places.{length-after, contents-act, marks-act, contents-inside, nth-same, nth-other}
+use Rattle.protocol.proofs.Places.{length-after, acted, contents-inside, nth-same, nth-other}
 use Rattle.protocol.proofs.Preserved.{Inv, rest-inv, leaving-inv, begin-inv, step-inv}
 
 edge-no-cell : (N q : ℕ) → (q ≡ 0) ⊎ (N < q) → cell N q ≡ true → ⊥
 edge-no-cell N q h e = grind arith
 
 -- a call that a check may refuse: what holds of its refusal and of what follows the check
-pub by-check : {K A : Type 0} (P : Out K A → Type 0) (b : Bool) (e : Refusal) (w : World K) (o : Out K A) → P (w, Err e) → (b ≡ false → P o) → P (refused-if b e w o)
+pub by-check : {K A : Type 0} (P : Out K A → Type 0) (b : Bool) (e : Refusal) (w : World K) (o : Out K A) → P (w, Err e) → (b ≡ false → P o)
+    → P (refused-if b e w o)
 unfolding refused-if
 by-check P true e w o x y = x
 by-check P false e w o x y = y refl
@@ -39,7 +39,8 @@ by-check P false e w o x y = y refl
 pub by-station : {K A : Type 0} (P : Out K A → Type 0) (w : World K) (s : ℕ) (f : Station K → Out K A) → P (w, Err NoStation)
     → (bad-count (length (w .stations)) ≡ false → (u : Station K) → nth (w .stations) s ≡ holds u → P (f u)) → P (at-station w s f)
 unfolding for-record
-by-station P w s f x y = by-check P (bad-count (length (w .stations))) NoStation w (for-record w (nth (w .stations) s) f) x (λ b. go (nth (w .stations) s) refl b)
+by-station P w s f x y =
+    by-check P (bad-count (length (w .stations))) NoStation w (for-record w (nth (w .stations) s) f) x (λ b. go (nth (w .stations) s) refl b)
   where
     go : (o : Content (Station _)) → nth (w .stations) s ≡ o → bad-count (length (w .stations)) ≡ false → P (for-record w o f)
     go empty e b = x
@@ -59,7 +60,11 @@ module _ {K : Type 0} (filler : K) where
   seats ts s = seat (bad-count (length ts)) (nth ts s)
 
   abbrev pub state : World K → Log K → State K
-  state w g = record { contents = contents (w .cells); marked = marks (w .cells); station = seats (w .stations); effects = g .effects; unfinished = g .unfinished; held = g .held }
+  state w g =
+      record {
+        contents = contents (w .cells); marked = marks (w .cells); station = seats (w .stations); effects = g .effects; unfinished = g .unfinished;
+        held = g .held;
+      }
 
 module _ {K : Type 0} {N : ℕ} (κ : Lawful K N) where
   pub edge-unmarked : (v : State K) → Inv κ v → (q : ℕ) → (q ≡ 0) ⊎ (N < q) → v .marked q ≡ false
@@ -69,25 +74,21 @@ module _ {K : Type 0} {N : ℕ} (κ : Lawful K N) where
       go free e = i .core .marks q ∙ ap taken e
       go (by t) e = absurd (edge-no-cell N q h (holder-cell N (held-by (v .station t .stage)) q (i .core .owned t q ∙ ap (is-by t) e ∙ is-by-self t)))
 
-  pub inv-ext : (v v′ : State K) → ((p : ℕ) → v′ .contents p ≡ v .contents p) → ((p : ℕ) → v′ .marked p ≡ v .marked p) → ((s : ℕ) → v′ .station s ≡ v .station s) → v′ .effects ≡ v .effects → ((s : ℕ) → v′ .unfinished s ≡ v .unfinished s) → ((s p : ℕ) → v′ .held s p ≡ v .held s p) → Inv κ v → Inv κ v′
+  pub inv-ext : (v v′ : State K) → ((p : ℕ) → v′ .contents p ≡ v .contents p) → ((p : ℕ) → v′ .marked p ≡ v .marked p)
+      → ((s : ℕ) → v′ .station s ≡ v .station s) → v′ .effects ≡ v .effects → ((s : ℕ) → v′ .unfinished s ≡ v .unfinished s)
+      → ((s p : ℕ) → v′ .held s p ≡ v .held s p) → Inv κ v → Inv κ v′
   inv-ext v v′ e1 e2 e3 e4 e5 e6 i = subst (Inv κ) (sym same-state) i
     where
       same-state : v′ ≡ v
-      same-state = λ j. record { contents = λ p. e1 p j; marked = λ p. e2 p j; station = λ s. e3 s j; effects = e4 j; unfinished = λ s. e5 s j; held = λ s p. e6 s p j }
+      same-state =
+          λ j.
+            record {
+              contents = λ p. e1 p j; marked = λ p. e2 p j; station = λ s. e3 s j; effects = e4 j; unfinished = λ s. e5 s j; held = λ s p. e6 s p j;
+            }
 
-  pub stepped-is : (v : State K) (s : ℕ) (u : Station K) → v .station s ≡ u → stepped (κ .kind) v s ≡ step-by v s u (decide (κ .kind) (u .key) (u .stage) (v .contents) (v .marked)) (settled (u .withdrawn) (decide (κ .kind) (u .key) (u .stage) (v .contents) (v .marked) .next))
+  pub stepped-is : (v : State K) (s : ℕ) (u : Station K) → v .station s ≡ u → stepped (κ .kind) v s ≡ step-with (κ .kind) v s u
   unfolding stepped
-  stepped-is v s u e = ap (λ t. step-by v s t (decide (κ .kind) (t .key) (t .stage) (v .contents) (v .marked)) (settled (t .withdrawn) (decide (κ .kind) (t .key) (t .stage) (v .contents) (v .marked) .next))) e
-
-  -- an act on the cells, by place: its effect on an edge would be none
-  pub acted : (cs : List (Cell K)) (v : State K) (s : ℕ) (u : Station K) (m : Decision K) (x : Stage) → length cs ≡ N → v .contents ≡ contents cs → v .marked ≡ marks cs → Inv κ (step-by v s u m x)
-      → ((p : ℕ) → contents (cells-after (m .act) cs) p ≡ contents-after (m .act) (v .contents) p) × ((p : ℕ) → marks (cells-after (m .act) cs) p ≡ marks-after (m .act) (v .marked) p)
-  acted cs v s u m x size ec em i =
-      (λ p. contents-act (m .act) cs (λ q o. ap (λ T. contents-after (m .act) T q) (sym ec) ∙ ⊎-elim (λ (z : q ≡ 0). ap (contents-after (m .act) (v .contents)) z ∙ i .core .edge-low) (λ lt. i .core .edge-high q lt) (off q o)) p ∙ ap (λ T. contents-after (m .act) T p) (sym ec),
-       λ p. marks-act (m .act) cs (λ q o. ap (λ M. marks-after (m .act) M q) (sym em) ∙ edge-unmarked (step-by v s u m x) i q (off q o)) p ∙ ap (λ M. marks-after (m .act) M p) (sym em))
-    where
-      off : (q : ℕ) → (q ≡ 0) ⊎ (length cs < q) → (q ≡ 0) ⊎ (N < q)
-      off q = ⊎-elim inl (λ lt. inr (omega (arith, size)))
+  stepped-is v s u e = ap (step-with (κ .kind) v s) e
 
   module _ (filler : K) where
     pub record Kept (w : World K) (g : Log K) : Type 0 where
@@ -110,20 +111,31 @@ module _ {K : Type 0} {N : ℕ} (κ : Lawful K N) where
           seats-set t r =
               ap (λ n. seat filler (bad-count n) (nth (set (w .stations) s t) r)) (length-set (w .stations) s t)
               ∙ ⊎-elim
-                (λ (z : s ≡ r). ap (λ x. seat filler x (nth (set (w .stations) s t) r)) b ∙ ap (λ j. seat filler false (nth (set (w .stations) s t) j)) (sym z) ∙ ap (seat filler false) (nth-same (w .stations) s t u e) ∙ sym (updated-at (seats filler (w .stations)) s r t z))
-                (λ n. ap (seat filler (bad-count (length (w .stations)))) (nth-other (w .stations) s t r n) ∙ sym (updated-other (seats filler (w .stations)) s r t n))
+                (λ (z : s ≡ r).
+                   ap (λ x. seat filler x (nth (set (w .stations) s t) r)) b
+                   ∙ ap (λ j. seat filler false (nth (set (w .stations) s t) j)) (sym z)
+                   ∙ ap (seat filler false) (nth-same (w .stations) s t u e)
+                   ∙ sym (updated-at (seats filler (w .stations)) s r t z))
+                (λ n.
+                   ap (seat filler (bad-count (length (w .stations)))) (nth-other (w .stations) s t r n)
+                   ∙ sym (updated-other (seats filler (w .stations)) s r t n))
                 (cases-eq s r)
 
           -- what holds of the new record and of the others holds of all
-          seated-all : (P : ℕ → Station K → Type 0) (t : Station K) → P s t → ((r : ℕ) → s ≢ r → P r (seats filler (w .stations) r)) → (r : ℕ) → P r (seats filler (set (w .stations) s t) r)
+          seated-all : (P : ℕ → Station K → Type 0) (t : Station K) → P s t → ((r : ℕ) → s ≢ r → P r (seats filler (w .stations) r)) → (r : ℕ)
+              → P r (seats filler (set (w .stations) s t) r)
           seated-all P t here there r = subst (P r) (sym (seats-set t r)) (updated-all P (seats filler (w .stations)) s t here there r)
 
           -- a turn that writes the record of s alone
-          seated-kept : (t : Station K) (x : Bool) (un : ℕ → Bool) (an : ℕ → Effect) → Inv κ (with-station (state filler w g) s t x) → ((r : ℕ) → un r ≡ updated (g .unfinished) s x r)
+          seated-kept : (t : Station K) (x : Bool) (un : ℕ → Bool) (an : ℕ → Effect) → Inv κ (with-station (state filler w g) s t x)
+              → ((r : ℕ) → un r ≡ updated (g .unfinished) s x r)
               → (is-idle (t .stage) ≡ false → an s ≡ given (t .stage)) → ((r : ℕ) → s ≢ r → an r ≡ g .answer r) → names-cells N (t .stage) ≡ true
               → Kept (put-record w s t) (record { effects = g .effects; unfinished = un; held = g .held; answer = an })
           seated-kept t x un an i eu here there nm = record {
-            inv = inv-ext (with-station (state filler w g) s t x) (state filler (put-record w s t) (record { effects = g .effects; unfinished = un; held = g .held; answer = an })) (λ p. refl) (λ p. refl) (seats-set t) refl eu (λ r p. refl) i;
+            inv =
+              inv-ext (with-station (state filler w g) s t x)
+                (state filler (put-record w s t) (record { effects = g .effects; unfinished = un; held = g .held; answer = an }))
+                (λ p. refl) (λ p. refl) (seats-set t) refl eu (λ r p. refl) i;
             size = f .size;
             answers = seated-all (λ r y. is-idle (y .stage) ≡ false → an r ≡ given (y .stage)) t here (λ r n i. there r n ∙ f .answers r i);
             named = seated-all (λ r y. names-cells N (y .stage) ≡ true) t nm (λ r n. f .named r);
@@ -132,7 +144,9 @@ module _ {K : Type 0} {N : ℕ} (κ : Lawful K N) where
           begin-kept : (k : K) → not (is-idle (u .stage)) ≡ false → Goal w g (begin s k) (put-record w s (fresh k), Ok (w .number, s))
           unfolding Goal
           begin-kept k h = seated-kept (fresh k) true (updated (g .unfinished) s true) (updated (g .answer) s nothing)
-              (begin-inv κ (state filler w g) (f .inv) s k (ap (λ x. x .stage) seat-is ∙ idle-is (u .stage) h)) (λ r. refl) (λ _. updated-same (g .answer) s nothing) (λ r n. updated-other (g .answer) s r nothing n) refl
+              (begin-inv κ (state filler w g) (f .inv) s k (ap (λ x. x .stage) seat-is ∙ idle-is (u .stage) h))
+                (λ r. refl) (λ _. updated-same (g .answer) s nothing) (λ r n. updated-other (g .answer) s r nothing n)
+                refl
 
           open-unfinished : g .unfinished s ≡ busy (u .stage)
           open-unfinished = f .inv .busy-is s ∙ ap (λ x. busy (x .stage)) seat-is
@@ -149,16 +163,27 @@ module _ {K : Type 0} {N : ℕ} (κ : Lawful K N) where
           collect-kept n homing z = f
           collect-kept n under-way z = f
           collect-kept n (done a) z = seated-kept (idled u) false (g .unfinished) (g .answer)
-              (subst (λ y. Inv κ (with-station (state filler w g) s (idled y) false)) seat-is (rest-inv κ (state filler w g) (f .inv) s (Answered a) (ap (λ y. y .stage) seat-is ∙ z) refl))
-              (λ r. ⊎-elim (λ (q : s ≡ r). ap (g .unfinished) (sym q) ∙ open-unfinished ∙ ap busy z ∙ sym (updated-at (g .unfinished) s r false q)) (λ m. sym (updated-other (g .unfinished) s r false m)) (cases-eq s r))
+              (subst
+                 (λ y. Inv κ (with-station (state filler w g) s (idled y) false)) seat-is
+                 (rest-inv κ (state filler w g) (f .inv) s (Answered a) (ap (λ y. y .stage) seat-is ∙ z) refl))
+              (λ r.
+                 ⊎-elim
+                   (λ (q : s ≡ r). ap (g .unfinished) (sym q) ∙ open-unfinished ∙ ap busy z ∙ sym (updated-at (g .unfinished) s r false q))
+                   (λ m. sym (updated-other (g .unfinished) s r false m)) (cases-eq s r))
               (λ h. absurd (both-ways true h refl)) (λ r m. refl) refl
 
           withdraw-kept : (n : ℕ) (x : Bool) → holds-mark N (u .stage) ≡ x → Goal w g (withdraw n s) (withdrawing-at w s u x)
           unfolding Goal
           withdraw-kept n true z = seated-kept (leaving u) (g .unfinished s) (updated (g .unfinished) s (g .unfinished s)) (g .answer)
-              (subst (λ y. Inv κ (with-station (state filler w g) s (leaving y) (g .unfinished s))) seat-is (leaving-inv κ (state filler w g) (f .inv) s)) (λ r. refl) answer-is (λ r m. refl) named-is
+              (subst
+                 (λ y. Inv κ (with-station (state filler w g) s (leaving y) (g .unfinished s)))
+                 seat-is (leaving-inv κ (state filler w g) (f .inv) s))
+                (λ r. refl) answer-is (λ r m. refl) named-is
           withdraw-kept n false z = seated-kept (idled u) false (updated (g .unfinished) s false) (g .answer)
-              (subst (λ y. Inv κ (with-station (state filler w g) s (idled y) false)) seat-is (rest-inv κ (state filler w g) (f .inv) s (u .stage) (ap (λ y. y .stage) seat-is) z)) (λ r. refl) (λ i. absurd (both-ways true i refl)) (λ r m. refl) refl
+              (subst
+                 (λ y. Inv κ (with-station (state filler w g) s (idled y) false)) seat-is
+                 (rest-inv κ (state filler w g) (f .inv) s (u .stage) (ap (λ y. y .stage) seat-is) z))
+                (λ r. refl) (λ i. absurd (both-ways true i refl)) (λ r m. refl) refl
 
           step-kept : busy (u .stage) ≡ true → Goal w g (step s) (stepping-by w s u (decision (κ .kind) (w .cells) (u .key) (u .stage)))
           unfolding Goal
@@ -177,18 +202,30 @@ module _ {K : Type 0} {N : ℕ} (κ : Lawful K N) where
               after-it : Inv κ (step-by (state filler w g) s u m x)
               after-it = subst (Inv κ) (stepped-is (state filler w g) s u seat-is) (step-inv κ (state filler w g) (f .inv) s)
               act-is : ((p : ℕ) → contents (v .cells) p ≡ contents-after (m .act) (contents (w .cells)) p) × ((p : ℕ) → marks (v .cells) p ≡ marks-after (m .act) (marks (w .cells)) p)
-              act-is = acted (w .cells) (state filler w g) s u m x (f .size) refl refl after-it
+              act-is =
+                  acted (m .act) (w .cells) N (f .size) (after-it .core .edge-low) (after-it .core .edge-high)
+                    (edge-unmarked (step-by (state filler w g) s u m x) after-it)
               kept : Kept v (log-at (κ .kind) w s (holds u) o g)
               kept = record {
-                inv = inv-ext (step-by (state filler w g) s u m x) (state filler v (log-at (κ .kind) w s (holds u) o g)) (act-is .0) (act-is .1) (seats-set t) refl
+                inv =
+                    inv-ext (step-by (state filler w g) s u m x)
+                      (state filler v (log-at (κ .kind) w s (holds u) o g)) (act-is .0) (act-is .1)
+                      (seats-set t) refl
                   (λ q. ap (λ y. updated (g .unfinished) s y q) (finish-is x (g .unfinished s) (open-unfinished ∙ h)))
                   (λ q p. ap (λ y. cond (eqb s q) (watched (marks (w .cells) p) y (g .held s p)) (g .held q p)) (act-is .1 p)) after-it;
                 size = length-after (m .act) (w .cells) ∙ f .size;
-                answers = seated-all (λ r y. is-idle (y .stage) ≡ false → updated (g .answer) s (latest (m .effect) (g .answer s)) r ≡ given (y .stage)) t
-                  (λ i. updated-same (g .answer) s (latest (m .effect) (g .answer s)) ∙ ap (latest (m .effect)) (answer-is (busy-not-idle (u .stage) h)) ∙ once (κ .kind) (u .key) (u .stage) (contents (w .cells)) (marks (w .cells)) .1 ∙ ap given (sym (settled-same (u .withdrawn) (m .next) i)))
+                answers =
+                    seated-all (λ r y. is-idle (y .stage) ≡ false → updated (g .answer) s (latest (m .effect) (g .answer s)) r ≡ given (y .stage)) t
+                  (λ i.
+                     updated-same (g .answer) s (latest (m .effect) (g .answer s))
+                     ∙ ap (latest (m .effect)) (answer-is (busy-not-idle (u .stage) h))
+                     ∙ once (κ .kind) (u .key) (u .stage) (contents (w .cells)) (marks (w .cells)) .1
+                     ∙ ap given (sym (settled-same (u .withdrawn) (m .next) i)))
                   (λ r n i. updated-other (g .answer) s r (latest (m .effect) (g .answer s)) n ∙ f .answers r i);
                 named = seated-all (λ r y. names-cells N (y .stage) ≡ true) t
-                  (named-settled N (u .withdrawn) (m .next) (named-kept κ (u .key) (contents (w .cells)) (marks (w .cells)) (contents-inside (w .cells) N (f .size)) (u .stage) named-is)) (λ r n. f .named r);
+                  (named-settled N (u .withdrawn) (m .next)
+                     (named-kept κ (u .key) (contents (w .cells)) (marks (w .cells)) (contents-inside (w .cells) N (f .size)) (u .stage) named-is))
+                    (λ r n. f .named r);
               }
 
         -- a refused step is not logged

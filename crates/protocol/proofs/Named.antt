@@ -126,7 +126,8 @@ module _ {K : Type 0} {N : ℕ} (κ : Lawful K N) (k : K) (T : ℕ → Content K
   absent-named l r i j true true true e f = let z = cell-parts N r f in gapped N l r (pred r) i j (omega arith)
   absent-named l r i j true true false e f = let z = cell-parts N l e in gapped N l r (pred l) i j (omega arith)
 
-  check-named : (l r : ℕ) → l < N + 2 → r < N + 2 → (b : Bool) (w : Walk) → ((q : ℕ) → w ≡ Onward q → q < N + 2) → Named (at-check {K = K} l r (cell N l) (cell N r) b w .next)
+  check-named : (l r : ℕ) → l < N + 2 → r < N + 2 → (b : Bool) (w : Walk) → ((q : ℕ) → w ≡ Onward q → q < N + 2)
+      → Named (at-check {K = K} l r (cell N l) (cell N r) b w .next)
   unfolding Named
   check-named l r x y b Here f = two N l r x y
   check-named l r x y b Ended f = absent-named l r x y (cell N l) (cell N r) b refl refl
@@ -136,7 +137,8 @@ module _ {K : Type 0} {N : ℕ} (κ : Lawful K N) (k : K) (T : ℕ → Content K
   gap-named Leftward g lt o = let z : pred g < N = omega arith in z
   gap-named Rightward g lt o = let i = inside (suc (suc g)) o in let z : suc g < N = omega arith in z
 
-  shift-named : (d : Direction) (l r g : ℕ) → l < N + 2 → r < N + 2 → g < N → (c : Content K) → T (beside d g) ≡ c → Named (at-shift (κ .kind) k d l r g c .next)
+  shift-named : (d : Direction) (l r g : ℕ) → l < N + 2 → r < N + 2 → g < N → (c : Content K) → T (beside d g) ≡ c
+      → Named (at-shift (κ .kind) k d l r g c .next)
   unfolding Named
   shift-named d l r g x y z empty e = two N l r x y
   shift-named d l r g x y z (holds i) e = by-due (copy-due d (κ .kind .order i k))
@@ -153,13 +155,17 @@ module _ {K : Type 0} {N : ℕ} (κ : Lawful K N) (k : K) (T : ℕ → Content K
   unfolding Named
   named-kept Idle h = refl
   named-kept Home h = home-named (M (κ .kind .place k)) (versus (κ .kind) k (T (κ .kind .place k)))
-  named-kept (Look p) h = look-named (walk-at (κ .kind .place k) p (versus (κ .kind) k (T p))) (walk-named p (of-one N p h) (versus (κ .kind) k (T p)) refl)
+  named-kept (Look p) h =
+      look-named (walk-at (κ .kind .place k) p (versus (κ .kind) k (T p))) (walk-named p (of-one N p h) (versus (κ .kind) k (T p)) refl)
   named-kept (Left p) h = left-named p (of-one N p h) (M p) (is-occupied (T p))
   named-kept (Right l p) h = let i = of-two N l p h in right-named l p (i .0) (i .1) (M p) (is-occupied (T p)) refl
   named-kept (FirstMark l r) h = first-named l r h (cell N l) (M l) (is-occupied (T l))
   named-kept (SecondMark l r) h = let i = of-two N l r h in second-named l r (i .0) (i .1) (cell N r) (M r) (is-occupied (T r))
   named-kept (GiveBack g) h = refl
-  named-kept (Check l r p) h = let i = of-three N l r p h in check-named l r (i .0) (i .1) (is-after (versus (κ .kind) k (T (κ .kind .place k)))) (walk-at (κ .kind .place k) p (versus (κ .kind) k (T p))) (walk-named p (i .2) (versus (κ .kind) k (T p)) refl)
+  named-kept (Check l r p) h =
+      let i = of-three N l r p h in
+      check-named l r (i .0) (i .1) (is-after (versus (κ .kind) k (T (κ .kind .place k))))
+        (walk-at (κ .kind .place k) p (versus (κ .kind) k (T p))) (walk-named p (i .2) (versus (κ .kind) k (T p)) refl)
   named-kept (Shift d l r g) h = let i = of-gap N l r g h in shift-named d l r g (i .0) (i .1) (i .2) (T (beside d g)) refl
   named-kept (ReleaseLeft l r a) h = let i = of-two N l r h in release-named l (cell N l) (ReleaseRight r a) (one N r (i .1))
   named-kept (ReleaseRight r a) h = release-named r (cell N r) (Answered a) refl

@@ -102,43 +102,65 @@ module _ {K : Type 0} where
   marks-put x (suc i) cs (suc j) = marked-put x i cs j
 
   -- a write off the cells does nothing; e says that it would have left an edge as it was
-  contents-put : (x : K) (p : ℕ) (cs : List (Cell K)) → ((q : ℕ) → (q ≡ 0) ⊎ (length cs < q) → updated (contents cs) p (holds x) q ≡ empty) → (q : ℕ) → contents (alter-place (with-key x) p cs) q ≡ updated (contents cs) p (holds x) q
+  contents-put : (x : K) (p : ℕ) (cs : List (Cell K)) → ((q : ℕ) → (q ≡ 0) ⊎ (length cs < q) → updated (contents cs) p (holds x) q ≡ empty) → (q : ℕ)
+      → contents (alter-place (with-key x) p cs) q ≡ updated (contents cs) p (holds x) q
   contents-put x zero cs e zero = sym (e zero (inl refl))
   contents-put x zero cs e (suc j) = sym (updated-other (contents cs) zero (suc j) (holds x) (omega arith))
   contents-put x (suc i) cs e zero = sym (updated-other (contents cs) (suc i) zero (holds x) (omega arith))
   contents-put x (suc i) cs e (suc j) =
       ⊎-elim
         (λ (z : i ≡ j). ⊎-elim
-          (λ (lt : i < length cs). ap (content-at (alter (with-key x) i cs)) (sym z) ∙ content-put x i cs lt ∙ sym (updated-at (contents cs) (suc i) (suc j) (holds x) (ap suc z)))
+          (λ (lt : i < length cs).
+             ap (content-at (alter (with-key x) i cs)) (sym z)
+             ∙ content-put x i cs lt
+             ∙ sym (updated-at (contents cs) (suc i) (suc j) (holds x) (ap suc z)))
           (λ le. ap (λ y. content-at y j) (alter-past (with-key x) i cs le) ∙ content-past cs j (omega arith) ∙ sym (e (suc j) (inr (omega arith))))
           (cases-lt i (length cs)))
         (λ n. content-other (with-key x) i cs j n ∙ sym (updated-other (contents cs) (suc i) (suc j) (holds x) (omega arith)))
         (cases-eq i j)
 
-  marks-mark : (b : Bool) (p : ℕ) (cs : List (Cell K)) → ((q : ℕ) → (q ≡ 0) ⊎ (length cs < q) → updated (marks cs) p b q ≡ false) → (q : ℕ) → marks (alter-place (with-mark b) p cs) q ≡ updated (marks cs) p b q
+  marks-mark : (b : Bool) (p : ℕ) (cs : List (Cell K)) → ((q : ℕ) → (q ≡ 0) ⊎ (length cs < q) → updated (marks cs) p b q ≡ false) → (q : ℕ)
+      → marks (alter-place (with-mark b) p cs) q ≡ updated (marks cs) p b q
   marks-mark b zero cs e zero = sym (e zero (inl refl))
   marks-mark b zero cs e (suc j) = sym (updated-other (marks cs) zero (suc j) b (omega arith))
   marks-mark b (suc i) cs e zero = sym (updated-other (marks cs) (suc i) zero b (omega arith))
   marks-mark b (suc i) cs e (suc j) =
       ⊎-elim
         (λ (z : i ≡ j). ⊎-elim
-          (λ (lt : i < length cs). ap (marked-at (alter (with-mark b) i cs)) (sym z) ∙ marked-mark b i cs lt ∙ sym (updated-at (marks cs) (suc i) (suc j) b (ap suc z)))
+          (λ (lt : i < length cs).
+             ap (marked-at (alter (with-mark b) i cs)) (sym z) ∙ marked-mark b i cs lt ∙ sym (updated-at (marks cs) (suc i) (suc j) b (ap suc z)))
           (λ le. ap (λ y. marked-at y j) (alter-past (with-mark b) i cs le) ∙ marked-past cs j (omega arith) ∙ sym (e (suc j) (inr (omega arith))))
           (cases-lt i (length cs)))
         (λ n. marked-other (with-mark b) i cs j n ∙ sym (updated-other (marks cs) (suc i) (suc j) b (omega arith)))
         (cases-eq i j)
 
-  pub contents-act : (a : Act K) (cs : List (Cell K)) → ((q : ℕ) → (q ≡ 0) ⊎ (length cs < q) → contents-after a (contents cs) q ≡ empty) → (q : ℕ) → contents (cells-after a cs) q ≡ contents-after a (contents cs) q
+  contents-act : (a : Act K) (cs : List (Cell K)) → ((q : ℕ) → (q ≡ 0) ⊎ (length cs < q) → contents-after a (contents cs) q ≡ empty) → (q : ℕ)
+      → contents (cells-after a cs) q ≡ contents-after a (contents cs) q
   contents-act Rest cs e q = refl
   contents-act (Mark p) cs e q = contents-mark true p cs q
   contents-act (Unmark p) cs e q = contents-mark false p cs q
   contents-act (Write p x) cs e q = contents-put x p cs e q
 
-  pub marks-act : (a : Act K) (cs : List (Cell K)) → ((q : ℕ) → (q ≡ 0) ⊎ (length cs < q) → marks-after a (marks cs) q ≡ false) → (q : ℕ) → marks (cells-after a cs) q ≡ marks-after a (marks cs) q
+  marks-act : (a : Act K) (cs : List (Cell K)) → ((q : ℕ) → (q ≡ 0) ⊎ (length cs < q) → marks-after a (marks cs) q ≡ false) → (q : ℕ)
+      → marks (cells-after a cs) q ≡ marks-after a (marks cs) q
   marks-act Rest cs e q = refl
   marks-act (Mark p) cs e q = marks-mark true p cs e q
   marks-act (Unmark p) cs e q = marks-mark false p cs e q
   marks-act (Write p x) cs e q = marks-put x p cs q
+
+  -- an act on the cells, by place, where it leaves the edges as they are
+  pub acted : (a : Act K) (cs : List (Cell K)) (n : ℕ) → length cs ≡ n
+      → contents-after a (contents cs) 0 ≡ empty → ((p : ℕ) → n < p → contents-after a (contents cs) p ≡ empty)
+      → ((p : ℕ) → (p ≡ 0) ⊎ (n < p) → marks-after a (marks cs) p ≡ false)
+      →
+        ((p : ℕ) → contents (cells-after a cs) p ≡ contents-after a (contents cs) p)
+        × ((p : ℕ) → marks (cells-after a cs) p ≡ marks-after a (marks cs) p)
+  acted a cs n size low high none-marked =
+      (contents-act a cs (λ q o. ⊎-elim (λ (z : q ≡ 0). ap (contents-after a (contents cs)) z ∙ low) (λ lt. high q lt) (off q o)),
+       marks-act a cs (λ q o. none-marked q (off q o)))
+    where
+      off : (q : ℕ) → (q ≡ 0) ⊎ (length cs < q) → (q ≡ 0) ⊎ (n < q)
+      off q = ⊎-elim inl (λ lt. inr (omega (arith, size)))
 
   content-blank : (k : K) (cs : List (Cell K)) (i : ℕ) → content-at (map (blank k) cs) i ≡ empty
   content-blank k [] i = refl
@@ -161,7 +183,8 @@ module _ {K : Type 0} where
   -- only cells are occupied
   pub contents-inside : (cs : List (Cell K)) (n : ℕ) → length cs ≡ n → (p : ℕ) → is-occupied (contents cs p) ≡ true → (0 < p) × (p ≤ n)
   contents-inside cs n size zero o = absurd (both-ways false refl o)
-  contents-inside cs n size (suc i) o = (omega arith, ⊎-elim (λ (a : n < suc i). absurd (not-both (contents-past cs (suc i) (omega arith)) o)) (λ a. a) (cases-lt n (suc i)))
+  contents-inside cs n size (suc i) o =
+      (omega arith, ⊎-elim (λ (a : n < suc i). absurd (not-both (contents-past cs (suc i) (omega arith)) o)) (λ a. a) (cases-lt n (suc i)))
 
 module _ {A : Type 0} where
   pub nth-same : (xs : List A) (i : ℕ) (a b : A) → nth xs i ≡ holds b → nth (set xs i a) i ≡ holds a

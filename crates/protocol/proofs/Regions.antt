@@ -26,7 +26,8 @@ pub off-interval : (p l r : ℕ) → (l ≤ p → p ≤ r → ⊥) → (p < l) �
 off-interval p l r h = ⊎-elim inl (λ a. ⊎-elim inr (λ b. absurd (h a b)) (cases-lt r p)) (cases-lt p l)
 
 -- two regions whose boundaries are edges or off the other region do not meet
-pub apart-by : (N p l r l′ r′ : ℕ) → (l ≡ 0) ⊎ ((l < l′) ⊎ (r′ < l)) → (N < r) ⊎ ((r < l′) ⊎ (r′ < r)) → (l′ ≡ 0) ⊎ ((l′ < l) ⊎ (r < l′)) → (N < r′) ⊎ ((r′ < l) ⊎ (r < r′)) → (0 < l′) ⊎ (r′ ≤ N) → r ≤ suc N → r′ ≤ suc N → l ≤ p → p ≤ r → l′ ≤ p → p ≤ r′ → ⊥
+pub apart-by : (N p l r l′ r′ : ℕ) → (l ≡ 0) ⊎ ((l < l′) ⊎ (r′ < l)) → (N < r) ⊎ ((r < l′) ⊎ (r′ < r)) → (l′ ≡ 0) ⊎ ((l′ < l) ⊎ (r < l′))
+    → (N < r′) ⊎ ((r′ < l) ⊎ (r < r′)) → (0 < l′) ⊎ (r′ ≤ N) → r ≤ suc N → r′ ≤ suc N → l ≤ p → p ≤ r → l′ ≤ p → p ≤ r′ → ⊥
 apart-by N p l r l′ r′ a b a′ b′ d e e′ h1 h2 h3 h4 = omega arith
 
 module _ {K : Type 0} {N : ℕ} (κ : Lawful K N) {T : ℕ → Content K} {M : ℕ → Bool} {O : ℕ → Owner} {ky : ℕ → K} {st : ℕ → Stage} {S : ℕ → Content K} (c : Core κ T M O ky st S) where
@@ -79,8 +80,12 @@ module _ {K : Type 0} {N : ℕ} (κ : Lawful K N) {T : ℕ → Content K} {M : �
       go (SecondMark l r) e h = absurd h
       go (GiveBack g) e h = absurd h
       go (Check l r q) e h = absurd h
-      go (Shift Leftward l r g) e h = record { l = l; r = r; fenced = fence-left t l r g e; some-cell = inr (good-at t (Shift Leftward l r g) e .cell-r); l-p = h .0; p-r = h .1 }
-      go (Shift Rightward l r g) e h = record { l = l; r = r; fenced = fence-right t l r g e; some-cell = inl (good-at t (Shift Rightward l r g) e .cell-l); l-p = h .0; p-r = h .1 }
+      go (Shift Leftward l r g) e h =
+          record { l = l; r = r; fenced = fence-left t l r g e; some-cell = inr (good-at t (Shift Leftward l r g) e .cell-r); l-p = h .0; p-r = h .1 }
+      go (Shift Rightward l r g) e h =
+          record {
+            l = l; r = r; fenced = fence-right t l r g e; some-cell = inl (good-at t (Shift Rightward l r g) e .cell-l); l-p = h .0; p-r = h .1;
+          }
       go (ReleaseLeft l r a) e h = absurd h
       go (ReleaseRight r a) e h = absurd h
       go (Answered a) e h = absurd h
@@ -127,7 +132,9 @@ module _ {K : Type 0} {N : ℕ} (κ : Lawful K N) {T : ℕ → Content K} {M : �
   off-l : (s t l r l′ r′ : ℕ) → s ≢ t → Fence s l r → Fence t l′ r′ → (l ≡ 0) ⊎ ((l < l′) ⊎ (r′ < l))
   off-l s t l r l′ r′ n f g =
       let a = f .region .l-h in let b = κ .place-high (ky s) in
-      ⊎-elim (λ (z : 0 < l). inr (off-interval l l′ r′ (outside s t l′ r′ l n g (f .own-l z) z (omega arith)))) (λ z. inl (omega arith)) (cases-lt 0 l)
+      ⊎-elim
+        (λ (z : 0 < l). inr (off-interval l l′ r′ (outside s t l′ r′ l n g (f .own-l z) z (omega arith))))
+        (λ z. inl (omega arith)) (cases-lt 0 l)
 
   off-r : (s t l r l′ r′ : ℕ) → s ≢ t → Fence s l r → Fence t l′ r′ → (N < r) ⊎ ((r < l′) ⊎ (r′ < r))
   off-r s t l r l′ r′ n f g =
@@ -136,7 +143,9 @@ module _ {K : Type 0} {N : ℕ} (κ : Lawful K N) {T : ℕ → Content K} {M : �
 
   pub apart : (s t l r l′ r′ p : ℕ) → s ≢ t → Fence s l r → Fence t l′ r′ → (0 < l′) ⊎ (r′ ≤ N) → l ≤ p → p ≤ r → l′ ≤ p → p ≤ r′ → ⊥
   apart s t l r l′ r′ p n f g d a b a′ b′ =
-      apart-by N p l r l′ r′ (off-l s t l r l′ r′ n f g) (off-r s t l r l′ r′ n f g) (off-l t s l′ r′ l r (λ e. n (sym e)) g f) (off-r t s l′ r′ l r (λ e. n (sym e)) g f) d (f .region .top) (g .region .top) a b a′ b′
+      apart-by N p l r l′ r′ (off-l s t l r l′ r′ n f g) (off-r s t l r l′ r′ n f g)
+        (off-l t s l′ r′ l r (λ e. n (sym e)) g f) (off-r t s l′ r′ l r (λ e. n (sym e)) g f)
+        d (f .region .top) (g .region .top) a b a′ b′
 
   -- what another relies on is off the region of a station that shifts
   pub keeps-off : (s t l r p : ℕ) → s ≢ t → Fence s l r → (0 < l) ⊎ (r ≤ N) → Keeps (st t) p → l ≤ p → p ≤ r → ((0 < p) → p ≤ N → ⊥) ⊎ ⊥

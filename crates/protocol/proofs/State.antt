@@ -33,7 +33,12 @@ module _ {K : Type 0} where
 
   -- station s gets the record t, and its entry is unfinished or not
   abbrev pub with-station : State K → ℕ → Station K → Bool → State K
-  with-station w s t u = record { contents = w .contents; marked = w .marked; station = updated (w .station) s t; effects = w .effects; unfinished = updated (w .unfinished) s u; held = w .held }
+  with-station w s t u =
+      record {
+        contents =
+          w .contents; marked = w .marked; station = updated (w .station) s t; effects = w .effects; unfinished = updated (w .unfinished) s u;
+        held = w .held;
+      }
 
   abbrev pub step-by : State K → ℕ → Station K → Decision K → Stage → State K
   step-by w s t m x = record {
@@ -45,9 +50,11 @@ module _ {K : Type 0} where
     held = λ s′ p. cond (eqb s s′) (watched (w .marked p) (marks-after (m .act) (w .marked) p) (w .held s p)) (w .held s′ p);
   }
 
--- the step of station s, whatever its stage
-unfoldable pub stepped : {K : Type 0} {N : ℕ} → Kind K N → State K → ℕ → State K
-stepped κ w s =
-    let t = w .station s in
+-- the step of station s with the record t, whatever its stage
+abbrev pub step-with : {K : Type 0} {N : ℕ} → Kind K N → State K → ℕ → Station K → State K
+step-with κ w s t =
     let m = decide κ (t .key) (t .stage) (w .contents) (w .marked) in
     step-by w s t m (settled (t .withdrawn) (m .next))
+
+unfoldable pub stepped : {K : Type 0} {N : ℕ} → Kind K N → State K → ℕ → State K
+stepped κ w s = step-with κ w s (w .station s)

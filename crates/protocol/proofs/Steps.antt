@@ -21,7 +21,10 @@ use Rattle.protocol.proofs.Regions.{good-at, around, relied, clear}
 
 module _ {K : Type 0} {N : ℕ} (κ : Lawful K N) {T : ℕ → Content K} {M : ℕ → Bool} {O : ℕ → Owner} {ky : ℕ → K} {st : ℕ → Stage} {S : ℕ → Content K} (c : Core κ T M O ky st S) (s : ℕ) where
   abbrev pub Done : Decision K → Type 0
-  Done m = Core κ (contents-after (m .act) T) (marks-after (m .act) M) (owners-after s (m .act) O) ky (updated st s (m .next)) (table-after κ (ky s) (m .effect) S) × Right-answer κ (ky s) (m .effect) S
+  Done m =
+      Core κ (contents-after (m .act) T) (marks-after (m .act) M) (owners-after s (m .act) O) ky
+        (updated st s (m .next)) (table-after κ (ky s) (m .effect) S) × Right-answer
+        κ (ky s) (m .effect) S
 
   -- a key in a cell is in the table
   pub in-table : (p : ℕ) (x : K) → T p ≡ holds x → (q : ℕ) × (S q ≡ holds x)
@@ -39,7 +42,9 @@ module _ {K : Type 0} {N : ℕ} (κ : Lawful K N) {T : ℕ → Content K} {M : �
       go t (Check l r q) e i = absurd i
       go t (Shift Leftward l r g) e i =
           let d = good-at κ c t (Shift Leftward l r g) e in
-          ⊎-elim (λ (a : suc g < p). let z : suc (pred p) ≡ p = omega arith in (pred p, d .moved (pred p) (omega arith) (omega arith) ∙ ap T z ∙ h)) (λ a. (p, d .kept p (i .0) a ∙ h)) (cases-lt (suc g) p)
+          ⊎-elim
+            (λ (a : suc g < p). let z : suc (pred p) ≡ p = omega arith in (pred p, d .moved (pred p) (omega arith) (omega arith) ∙ ap T z ∙ h))
+            (λ a. (p, d .kept p (i .0) a ∙ h)) (cases-lt (suc g) p)
       go t (Shift Rightward l r g) e i =
           let d = good-at κ c t (Shift Rightward l r g) e in
           ⊎-elim (λ (a : p < suc g). (suc p, d .moved p (i .0) a ∙ h)) (λ a. (p, d .kept p a (i .1) ∙ h)) (cases-lt p (suc g))
@@ -48,17 +53,26 @@ module _ {K : Type 0} {N : ℕ} (κ : Lawful K N) {T : ℕ → Content K} {M : �
       go t (Answered a) e i = absurd i
 
   -- an effect that leaves the table
-  pub told : (x next : Stage) (a : Answer) → st s ≡ x → ((p : ℕ) → holder N next p ≡ holder N x p) → ((p : ℕ) → In-shift x p → In-shift next p) → Good κ T M S (ky s) next → one-worker (κ .kind) S (ky s) ≡ (S, a) → (a ≡ Inserted → ⊥) → Done (decided Rest next (took a))
-  told x next a e ho sh gd w ni = (subst (λ X. Core κ T M O ky (updated st s next) X) (sym (ap (λ z. z .0) w)) (still κ c s x next e ho sh gd), answer-told κ (ky s) S a w ni)
+  pub told : (x next : Stage) (a : Answer) → st s ≡ x → ((p : ℕ) → holder N next p ≡ holder N x p) → ((p : ℕ) → In-shift x p → In-shift next p)
+      → Good κ T M S (ky s) next → one-worker (κ .kind) S (ky s) ≡ (S, a) → (a ≡ Inserted → ⊥) → Done (decided Rest next (took a))
+  told x next a e ho sh gd w ni =
+      (subst (λ X. Core κ T M O ky (updated st s next) X) (sym (ap (λ z. z .0) w)) (still κ c s x next e ho sh gd), answer-told κ (ky s) S a w ni)
 
-  pub found-at : (x next : Stage) (p : ℕ) → st s ≡ x → ((p : ℕ) → holder N next p ≡ holder N x p) → ((p : ℕ) → In-shift x p → In-shift next p) → Good κ T M S (ky s) next → T p ≡ holds (ky s) → Done (decided Rest next (took Found))
+  pub found-at : (x next : Stage) (p : ℕ) → st s ≡ x → ((p : ℕ) → holder N next p ≡ holder N x p) → ((p : ℕ) → In-shift x p → In-shift next p)
+      → Good κ T M S (ky s) next → T p ≡ holds (ky s) → Done (decided Rest next (took Found))
   found-at x next p e ho sh gd h =
       let q = in-table p (ky s) h in let i = inside κ (c .sorted) (q .0) (ky s) (q .1) in
-      told x next Found e ho sh gd (worker-found κ S (ky s) (q .0) (c .sorted) (q .1) (i .0) (i .1)) (λ z. let n : _≡_ {A = ℕ} 0 1 = cc in omega arith)
+      told x next Found e ho sh gd
+        (worker-found κ S (ky s) (q .0) (c .sorted) (q .1) (i .0) (i .1)) (λ z. let n : _≡_ {A = ℕ} 0 1 = cc in omega arith)
 
   -- the entry at home
-  home-put : st s ≡ Home → M (κ .kind .place (ky s)) ≡ false → T (κ .kind .place (ky s)) ≡ empty → Done (decided (Write (κ .kind .place (ky s)) (ky s)) (Answered Inserted) (took Inserted))
-  home-put e um em = (subst (λ X. Core κ T′ M O ky (updated st s (Answered Inserted)) X) (sym (ap (λ z. z .0) w)) core, answer-new κ k S S′ w (λ x p z. (p, updated-other S h p (holds k) (λ y. not-both (ap S (sym y) ∙ s-empty) (holds-occ z)) ∙ z)) h (updated-same S h (holds k)))
+  home-put : st s ≡ Home → M (κ .kind .place (ky s)) ≡ false → T (κ .kind .place (ky s)) ≡ empty
+      → Done (decided (Write (κ .kind .place (ky s)) (ky s)) (Answered Inserted) (took Inserted))
+  home-put e um em =
+      (subst (λ X. Core κ T′ M O ky (updated st s (Answered Inserted)) X) (sym (ap (λ z. z .0) w)) core,
+       answer-new κ k S S′ w
+         (λ x p z. (p, updated-other S h p (holds k) (λ y. not-both (ap S (sym y) ∙ s-empty) (holds-occ z)) ∙ z))
+         h (updated-same S h (holds k)))
     where
       k : K
       k = ky s
@@ -73,7 +87,9 @@ module _ {K : Type 0} {N : ℕ} (κ : Lawful K N) {T : ℕ → Content K} {M : �
       S′ : ℕ → Content K
       S′ = updated S h (holds k)
       free-of : (t : ℕ) → Keeps (st t) h → ⊥
-      free-of t i = ⊎-elim (λ o. both-ways (M h) um (marked-by κ c h t (o a b))) (λ f. clear κ c t (f .0) (f .1) h (f .2) em um a b (f .3) (f .4)) (relied κ c t h i)
+      free-of t i =
+          ⊎-elim (λ o. both-ways (M h) um (marked-by κ c h t (o a b)))
+            (λ f. clear κ c t (f .0) (f .1) h (f .2) em um a b (f .3) (f .4)) (relied κ c t h i)
       not-shift : (t : ℕ) → In-shift (st t) h → ⊥
       not-shift t i = let f = around κ c t h i in clear κ c t (f .l) (f .r) h (f .fenced) em um a b (f .l-p) (f .p-r)
       s-empty : S h ≡ empty
@@ -88,7 +104,10 @@ module _ {K : Type 0} {N : ℕ} (κ : Lawful K N) {T : ℕ → Content K} {M : �
         from = λ p n. (p, refl, updated-other S h p (holds k) (λ z. n (sym z)));
         mono = λ p q i j lt x y. omega arith;
         near = λ p i x. omega arith;
-        grown = λ q o. ⊎-elim (λ (z : h ≡ q). holds-occ (updated-at S h q (holds k) z)) (λ n. ap is-occupied (updated-other S h q (holds k) n) ∙ o) (cases-eq h q);
+        grown =
+          λ q o.
+            ⊎-elim (λ (z : h ≡ q). holds-occ (updated-at S h q (holds k) z))
+              (λ n. ap is-occupied (updated-other S h q (holds k) n) ∙ o) (cases-eq h q);
         below = λ p x lt z. by-place κ x k (home-left κ (c .sorted) h p x s-empty lt (s-other p x (omega arith) z));
         above = λ p x lt z. by-place κ k x (home-right κ (c .sorted) h p x s-empty lt (s-other p x (omega arith) z));
         rise = λ q x y. holds-occ (updated-at S h q (holds k) (omega arith));
@@ -101,8 +120,13 @@ module _ {K : Type 0} {N : ℕ} (κ : Lawful K N) {T : ℕ → Content K} {M : �
         (updated-other T h 0 (holds k) (omega arith) ∙ c .edge-low)
         (λ p z. updated-other T h p (holds k) (omega arith) ∙ c .edge-high p z)
         (λ p. ap (λ y. holder N y p) (sym e) ∙ c .owned s p) (λ t p n. refl) (c .marks)
-        (λ p z. (z .0, ⊎-elim (λ (y : h ≡ p). holds-occ (updated-at T h p (holds k) y)) (λ n. ap is-occupied (updated-other T h p (holds k) n) ∙ z .1) (cases-eq h p)))
-        (λ t p n z. let ne : h ≢ p = λ y. free-of t (subst (λ i. Keeps (st t) i) (sym y) z) in (updated-other T h p (holds k) ne, updated-other S h p (holds k) ne))
+        (λ p z.
+           (z .0,
+            ⊎-elim (λ (y : h ≡ p). holds-occ (updated-at T h p (holds k) y))
+              (λ n. ap is-occupied (updated-other T h p (holds k) n) ∙ z .1) (cases-eq h p)))
+        (λ t p n z.
+           let ne : h ≢ p = λ y. free-of t (subst (λ i. Keeps (st t) i) (sym y) z) in
+           (updated-other T h p (holds k) ne, updated-other S h p (holds k) ne))
         tt
         (λ p. ⊎-elim (λ (y : h ≡ p). inl (updated-at S h p (holds k) y ∙ sym (updated-at T h p (holds k) y)))
           (λ n. ⊎-elim (λ z. inl (updated-other S h p (holds k) n ∙ z ∙ sym (updated-other T h p (holds k) n)))
@@ -113,12 +137,20 @@ module _ {K : Type 0} {N : ℕ} (κ : Lawful K N) {T : ℕ → Content K} {M : �
   pub home-step : st s ≡ Home → Done (decide (κ .kind) (ky s) Home T M)
   home-step e = go (M (κ .kind .place (ky s))) (versus (κ .kind) (ky s) (T (κ .kind .place (ky s)))) refl refl
     where
-      go : (b : Bool) (v : Versus) → M (κ .kind .place (ky s)) ≡ b → versus (κ .kind) (ky s) (T (κ .kind .place (ky s))) ≡ v → Done (at-home (ky s) (κ .kind .place (ky s)) b v)
+      go : (b : Bool) (v : Versus) → M (κ .kind .place (ky s)) ≡ b → versus (κ .kind) (ky s) (T (κ .kind .place (ky s))) ≡ v
+          → Done (at-home (ky s) (κ .kind .place (ky s)) b v)
       go true v m z = (still κ c s Home Home e (λ p. refl) (λ p i. i) tt, tt)
       go false none m z = home-put e m (versus-none κ (ky s) (T (κ .kind .place (ky s))) z)
-      go false (is same) m z = found-at Home (Answered Found) (κ .kind .place (ky s)) e (λ p. refl) (λ p i. i) tt (versus-same κ (ky s) (T (κ .kind .place (ky s))) z)
-      go false (is after) m z = (still κ c s Home (Look (pred (κ .kind .place (ky s)))) e (λ p. refl) (λ p i. i) (m, versus-occ κ (ky s) (T (κ .kind .place (ky s))) after z), tt)
-      go false (is before) m z = (still κ c s Home (Look (suc (κ .kind .place (ky s)))) e (λ p. refl) (λ p i. i) (m, versus-occ κ (ky s) (T (κ .kind .place (ky s))) before z), tt)
+      go false (is same) m z =
+          found-at Home (Answered Found) (κ .kind .place (ky s)) e (λ p. refl) (λ p i. i) tt (versus-same κ (ky s) (T (κ .kind .place (ky s))) z)
+      go false (is after) m z =
+          (still κ c s Home (Look (pred (κ .kind .place (ky s)))) e (λ p. refl) (λ p i. i)
+             (m, versus-occ κ (ky s) (T (κ .kind .place (ky s))) after z),
+           tt)
+      go false (is before) m z =
+          (still κ c s Home (Look (suc (κ .kind .place (ky s)))) e (λ p. refl) (λ p i. i)
+             (m, versus-occ κ (ky s) (T (κ .kind .place (ky s))) before z),
+           tt)
 
   pub look-step : (p : ℕ) → st s ≡ Look p → Done (decide (κ .kind) (ky s) (Look p) T M)
   look-step p e = go (versus (κ .kind) (ky s) (T p)) refl
@@ -128,7 +160,11 @@ module _ {K : Type 0} {N : ℕ} (κ : Lawful K N) {T : ℕ → Content K} {M : �
       g : Solid T M h
       g = good-at κ c s (Look p) e
       ended : Done (at-look h Ended)
-      ended = let a = κ .place-low (ky s) in (still κ c s (Look p) (Left (pred h)) e (λ q. refl) (λ q i. i) (omega arith, λ q x y. subst (λ i. Solid T M i) (let z : h ≡ q = omega arith in z) g), tt)
+      ended =
+          let a = κ .place-low (ky s) in
+          (still κ c s (Look p) (Left (pred h)) e (λ q. refl) (λ q i. i)
+             (omega arith, λ q x y. subst (λ i. Solid T M i) (let z : h ≡ q = omega arith in z) g),
+           tt)
       on-to : (q : ℕ) → Done (at-look h (Onward q))
       on-to q = (still κ c s (Look p) (Look q) e (λ q. refl) (λ q i. i) g, tt)
       go : (v : Versus) → versus (κ .kind) (ky s) (T p) ≡ v → Done (at-look h (walk-at h p v))
@@ -154,7 +190,11 @@ module _ {K : Type 0} {N : ℕ} (κ : Lawful K N) {T : ℕ → Content K} {M : �
       g = good-at κ c s (Left p) e
       go : (b o : Bool) → M p ≡ b → is-occupied (T p) ≡ o → Done (at-left h p b o)
       go true o m z = (still κ c s (Left p) Home e (λ q. refl) (λ q i. i) tt, tt)
-      go false true m z = (still κ c s (Left p) (Left (pred p)) e (λ q. refl) (λ q i. i) (let a = g .0 in omega arith, λ q x y. ⊎-elim (λ (i : p ≡ q). subst (λ j. Solid T M j) i (m, z)) (λ n. g .1 q (omega arith) y) (cases-eq p q)), tt)
+      go false true m z =
+          (still κ c s (Left p) (Left (pred p)) e (λ q. refl) (λ q i. i)
+             (let a = g .0 in omega arith,
+              λ q x y. ⊎-elim (λ (i : p ≡ q). subst (λ j. Solid T M j) i (m, z)) (λ n. g .1 q (omega arith) y) (cases-eq p q)),
+           tt)
       go false false m z = (still κ c s (Left p) (Right p (suc h)) e (λ q. refl) (λ q i. i) (g .0, omega arith, λ q x y. g .1 q x (omega arith)), tt)
 
   pub right-step : (l p : ℕ) → st s ≡ Right l p → Done (decide (κ .kind) (ky s) (Right l p) T M)
@@ -166,10 +206,17 @@ module _ {K : Type 0} {N : ℕ} (κ : Lawful K N) {T : ℕ → Content K} {M : �
       g = good-at κ c s (Right l p) e
       go : (b o : Bool) → M p ≡ b → is-occupied (T p) ≡ o → Done (at-right l p b o)
       go true o m z = (still κ c s (Right l p) Home e (λ q. refl) (λ q i. i) tt, tt)
-      go false true m z = (still κ c s (Right l p) (Right l (suc p)) e (λ q. refl) (λ q i. i) (g .0, (let a = g .1 in omega arith), λ q x y. ⊎-elim (λ (i : p ≡ q). subst (λ j. Solid T M j) i (m, z)) (λ n. g .2 q x (omega arith)) (cases-eq p q)), tt)
+      go false true m z =
+          (still κ c s (Right l p) (Right l (suc p)) e (λ q. refl) (λ q i. i)
+             (g .0,
+              (let a = g .1 in omega arith),
+              λ q x y. ⊎-elim (λ (i : p ≡ q). subst (λ j. Solid T M j) i (m, z)) (λ n. g .2 q x (omega arith)) (cases-eq p q)),
+           tt)
       go false false m z =
           let high = κ .place-high (ky s) in
-          let top : p ≤ suc N = ⊎-elim (λ (a : suc N < p). let b = g .0 in absurd (not-both (c .edge-high (suc N) (omega arith)) (g .2 (suc N) (omega arith) a .1))) (λ a. a) (cases-lt (suc N) p) in
+          let top : p ≤ suc N = ⊎-elim
+            (λ (a : suc N < p). let b = g .0 in absurd (not-both (c .edge-high (suc N) (omega arith)) (g .2 (suc N) (omega arith) a .1)))
+            (λ a. a) (cases-lt (suc N) p) in
           (still κ c s (Right l p) (FirstMark l p) e (λ q. refl) (λ q i. i) (record { l-h = g .0; h-r = g .1; top = top; solid = g .2 }), tt)
 
   pub first-step : (l r : ℕ) → st s ≡ FirstMark l r → Done (decide (κ .kind) (ky s) (FirstMark l r) T M)
@@ -183,21 +230,37 @@ module _ {K : Type 0} {N : ℕ} (κ : Lawful K N) {T : ℕ → Content K} {M : �
           (still κ c s (FirstMark l r) (SecondMark l r) e (λ q. off-edge N l q x) (λ q i. i) (g, empty-edge), tt)
       go true true o x m z = (still κ c s (FirstMark l r) Home e (λ q. refl) (λ q i. i) tt, tt)
       go true false true x m z = (still κ c s (FirstMark l r) Home e (λ q. refl) (λ q i. i) tt, tt)
-      go true false false x m z = (marking κ c s (FirstMark l r) (SecondMark l r) l e m (occ-none (T l) z) (λ q n. off-one N l q n) (one-at N l x) (λ q i. i) (region-mark κ l (occ-none (T l) z) g, occ-none (T l) z), tt)
+      go true false false x m z =
+          (marking κ c s (FirstMark l r) (SecondMark l r) l e m (occ-none (T l) z) (λ q n. off-one N l q n)
+             (one-at N l x) (λ q i. i) (region-mark κ l (occ-none (T l) z) g, occ-none (T l) z),
+           tt)
 
   pub back-step : (g : ℕ) → st s ≡ GiveBack g → Done (decide (κ .kind) (ky s) (GiveBack g) T M)
-  back-step g e = let x = good-at κ c s (GiveBack g) e in (unmarking κ c s (GiveBack g) Home (suc g) e (own κ c s (GiveBack g) e (suc g) (one-at N (suc g) x)) (λ q n. sym (off-one N (suc g) q n)) refl (λ q i. i) tt, tt)
+  back-step g e =
+      let x = good-at κ c s (GiveBack g) e in
+      (unmarking κ c s (GiveBack g) Home (suc g) e (own κ c s (GiveBack g) e (suc g) (one-at N (suc g) x))
+         (λ q n. sym (off-one N (suc g) q n)) refl (λ q i. i) tt,
+       tt)
 
   pub unleft-step : (l r : ℕ) (a : Answer) → st s ≡ ReleaseLeft l r a → Done (decide (κ .kind) (ky s) (ReleaseLeft l r a) T M)
   unleft-step l r a e = go (cell N l) refl
     where
       go : (b : Bool) → cell N l ≡ b → Done (release l b (ReleaseRight r a))
-      go true x = (unmarking κ c s (ReleaseLeft l r a) (ReleaseRight r a) l e (own κ c s (ReleaseLeft l r a) e l (two-at N l r x)) (λ q m. off-two N l r q m) (one-other N l r (let z = good-at κ c s (ReleaseLeft l r a) e in omega arith)) (λ q i. i) tt, tt)
+      go true x =
+          (unmarking κ c s (ReleaseLeft l r a) (ReleaseRight r a) l e
+             (own κ c s (ReleaseLeft l r a) e l (two-at N l r x)) (λ q m. off-two N l r q m)
+             (one-other N l r (let z = good-at κ c s (ReleaseLeft l r a) e in omega arith))
+             (λ q i. i) tt,
+           tt)
       go false x = (still κ c s (ReleaseLeft l r a) (ReleaseRight r a) e (λ q. two-edge-l N l r q x) (λ q i. i) tt, tt)
 
   pub unright-step : (r : ℕ) (a : Answer) → st s ≡ ReleaseRight r a → Done (decide (κ .kind) (ky s) (ReleaseRight r a) T M)
   unright-step r a e = go (cell N r) refl
     where
       go : (b : Bool) → cell N r ≡ b → Done (release r b (Answered a))
-      go true x = (unmarking κ c s (ReleaseRight r a) (Answered a) r e (own κ c s (ReleaseRight r a) e r (one-at N r x)) (λ q m. sym (off-one N r q m)) refl (λ q i. i) tt, tt)
+      go true x =
+          (unmarking κ c s (ReleaseRight r a) (Answered a) r e
+             (own κ c s (ReleaseRight r a) e r (one-at N r x)) (λ q m. sym (off-one N r q m))
+             refl (λ q i. i) tt,
+           tt)
       go false x = (still κ c s (ReleaseRight r a) (Answered a) e (λ q. sym (off-edge N r q x)) (λ q i. i) tt, tt)

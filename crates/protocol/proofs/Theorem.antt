@@ -45,9 +45,15 @@ module _ {K : Type 0} {N : ℕ} (κ : Lawful K N) (filler : K) where
   turn-kept w g f (enter k) = entered-kept κ filler w g f k
 
   -- empty cells, no mark, every station idle, nothing logged
-  blank-inv : (v : State K) → ((p : ℕ) → v .contents p ≡ empty) → ((p : ℕ) → v .marked p ≡ false) → ((s : ℕ) → v .station s .stage ≡ Idle) → v .effects ≡ [] → ((s : ℕ) → v .unfinished s ≡ false) → ((s p : ℕ) → v .held s p ≡ false) → Inv κ v
+  blank-inv : (v : State K) → ((p : ℕ) → v .contents p ≡ empty) → ((p : ℕ) → v .marked p ≡ false) → ((s : ℕ) → v .station s .stage ≡ Idle)
+      → v .effects ≡ [] → ((s : ℕ) → v .unfinished s ≡ false) → ((s p : ℕ) → v .held s p ≡ false) → Inv κ v
   unfolding table New-once Alike
-  blank-inv v e1 e2 e3 e4 e5 e6 = subst (λ es. Inv κ (record { contents = v .contents; marked = v .marked; station = v .station; effects = es; unfinished = v .unfinished; held = v .held })) (sym e4) made
+  blank-inv v e1 e2 e3 e4 e5 e6 =
+      subst
+        (λ es.
+           Inv κ
+             (record { contents = v .contents; marked = v .marked; station = v .station; effects = es; unfinished = v .unfinished; held = v .held }))
+        (sym e4) made
     where
       made : Inv κ (record { contents = v .contents; marked = v .marked; station = v .station; effects = []; unfinished = v .unfinished; held = v .held })
       made = record {
@@ -56,14 +62,22 @@ module _ {K : Type 0} {N : ℕ} (κ : Lawful K N) (filler : K) where
           edge-low = e1 0; edge-high = λ p h. e1 p; owned = λ s p. ap (λ x. holder N x p) (e3 s); marks = e2;
           good = λ s. subst (λ x. Good κ (v .contents) (v .marked) (λ p. empty) (v .station s .key) x) (sym (e3 s)) tt;
           agree = λ p. inl (sym (e1 p));
-          sorted = record { asc = λ p q x y lt a b. clash refl a; up = λ p q x a b c. clash refl a; down = λ p q x a b c. clash refl a; low = refl; high = λ p h. refl };
+          sorted =
+            record {
+              asc = λ p q x y lt a b. clash refl a; up = λ p q x a b c. clash refl a; down = λ p q x a b c. clash refl a; low = refl;
+              high = λ p h. refl;
+            };
         };
         held-is = e6; busy-is = λ s. e5 s ∙ sym (ap busy (e3 s)); alike = tt; new-once = tt; new-in = λ k h. elim h [ ];
       }
 
-  opened-kept : (number : ℕ) (cs : List (Cell K)) (ts : List (Station K)) → length (map (blank filler) cs) ≡ N → Kept κ filler (opening-if false number cs ts filler) no-log
+  opened-kept : (number : ℕ) (cs : List (Cell K)) (ts : List (Station K)) → length (map (blank filler) cs) ≡ N
+      → Kept κ filler (opening-if false number cs ts filler) no-log
   opened-kept number cs ts size = record {
-    inv = blank-inv (state filler (opening-if false number cs ts filler) no-log) (contents-blank filler cs) (marks-blank filler cs) all-idle refl (λ s. refl) (λ s p. refl);
+    inv =
+      blank-inv
+        (state filler (opening-if false number cs ts filler) no-log) (contents-blank filler cs)
+        (marks-blank filler cs) all-idle refl (λ s. refl) (λ s p. refl);
     size = size;
     answers = λ s h. absurd (both-ways (is-idle (seats filler (idle-records ts) s .stage)) h (ap is-idle (all-idle s)));
     named = λ s. ap (names-cells N) (all-idle s);
@@ -102,7 +116,8 @@ module _ {K : Type 0} {N : ℕ} (κ : Lawful K N) (filler : K) where
     abbrev i : Inv κ (state filler w g)
     i = f .inv
 
-    one-holder : (p : ℕ) → marks (w .cells) p ≡ true → (s : ℕ) × (g .held s p ≡ true) × (g .unfinished s ≡ true) × ((s′ : ℕ) → g .held s′ p ≡ true → s′ ≡ s)
+    one-holder : (p : ℕ) → marks (w .cells) p ≡ true
+        → (s : ℕ) × (g .held s p ≡ true) × (g .unfinished s ≡ true) × ((s′ : ℕ) → g .held s′ p ≡ true → s′ ≡ s)
     one-holder p m = go (i .owner p) refl
       where
         go : (o : Owner) → i .owner p ≡ o → (s : ℕ) × (g .held s p ≡ true) × (g .unfinished s ≡ true) × ((s′ : ℕ) → g .held s′ p ≡ true → s′ ≡ s)
@@ -122,7 +137,8 @@ module _ {K : Type 0} {N : ℕ} (κ : Lawful K N) (filler : K) where
                 (a .some-cell)))
         (i .core .agree p)
 
-    rising : ((p : ℕ) → marks (w .cells) p ≡ false) → (p q : ℕ) (x y : K) → p < q → contents (w .cells) p ≡ holds x → contents (w .cells) q ≡ holds y → κ .kind .order x y ≡ before
+    rising : ((p : ℕ) → marks (w .cells) p ≡ false) → (p q : ℕ) (x y : K) → p < q → contents (w .cells) p ≡ holds x → contents (w .cells) q ≡ holds y
+        → κ .kind .order x y ≡ before
     rising none-marked p q x y lt a b = i .core .sorted .asc p q x y lt (sym (still-is none-marked p) ∙ a) (sym (still-is none-marked q) ∙ b)
 
     once-each : ((p : ℕ) → marks (w .cells) p ≡ false) → (p q : ℕ) (x : K) → contents (w .cells) p ≡ holds x → contents (w .cells) q ≡ holds x → p ≡ q
@@ -138,12 +154,17 @@ module _ {K : Type 0} {order : K → K → Ordering} {home : K → ℕ → ℕ} 
   abbrev κ : Lawful K n
   κ = lawful laws n some few
 
-  turns-kept : (ts : List (Turn K)) (w : World K) (g : Log K) → Kept κ filler w g → Kept κ filler (after-turns order home ts (w, g) .0) (after-turns order home ts (w, g) .1)
+  turns-kept : (ts : List (Turn K)) (w : World K) (g : Log K) → Kept κ filler w g
+      → Kept κ filler (after-turns order home ts (w, g) .0) (after-turns order home ts (w, g) .1)
   unfolding after-turns Goal
   turns-kept [] w g f = f
   turns-kept (t ∷ ts) w g f =
       turns-kept ts (turned order home w t .0) (logged order home w t g)
-        (subst (λ m. Kept κ filler (turned-over (kind-over order home m) w t .0) (logged-over (kind-over order home m) w t (turned-over (kind-over order home m) w t) g)) (sym (f .size)) (turn-kept κ filler w g f t))
+        (subst
+           (λ m.
+              Kept κ filler (turned-over (kind-over order home m) w t .0)
+                (logged-over (kind-over order home m) w t (turned-over (kind-over order home m) w t) g))
+           (sym (f .size)) (turn-kept κ filler w g f t))
 
   promise : (w : World K) (g : Log K) → Kept κ filler w g → Promise order home n w g
   promise w g f = record {
@@ -152,14 +173,20 @@ module _ {K : Type 0} {order : K → K → Ordering} {home : K → ℕ → ℕ} 
       held-once = one-holder κ filler w g f;
       held-marked = λ s p h. marked-by κ (f .inv .core) p s (is-by-true s (f .inv .owner p) (sym (f .inv .held-is s p) ∙ h));
       alike = f .inv .alike;
-      collected = subst (λ m. (number s : ℕ) (a : Answer) → collecting m w number s .1 ≡ Ok a → g .answer s ≡ took a) (sym (f .size)) (collect-gives κ filler w g f);
+      collected =
+        subst
+          (λ m. (number s : ℕ) (a : Answer) → collecting m w number s .1 ≡ Ok a → g .answer s ≡ took a)
+          (sym (f .size)) (collect-gives κ filler w g f);
       same-cells = still-is κ filler w g f;
       each-once = once-each κ filler w g f;
       ascending = rising κ filler w g f;
     };
     whole-ends = λ _ _. whole-over κ w (f .size);
     no-stray = subst (λ m. (s : ℕ) → stepping (kind-over order home m) w s .1 ≡ Err NoCell → ⊥) (sym (f .size)) (never-stray κ filler w g f);
-    barred-same = subst (λ m. (k : K) → whole-entry (kind-over order home m) w k .1 ≡ Err Barred → whole-entry (kind-over order home m) w k .0 ≡ w) (sym (f .size)) (barred-unchanged κ w (f .size));
+    barred-same =
+      subst
+        (λ m. (k : K) → whole-entry (kind-over order home m) w k .1 ≡ Err Barred → whole-entry (kind-over order home m) w k .0 ≡ w)
+        (sym (f .size)) (barred-unchanged κ w (f .size));
   }
 
 refuses : {K A : Type 0} (w : World K) (b : Bool) (o : Out K A) → b ≡ true → refused-if b WrongSize w o ≡ (w, Err WrongSize)
@@ -221,4 +248,8 @@ safe {K} {order} {home} laws number cells stations filler = by-size (bad-size (l
     by-size false e =
         let n = length (map (blank filler) cells) in
         let z = sized n (ap bad-size (length-map cells (blank filler)) ∙ e) in
-        λ turns. promise laws n (z .0) (z .1) filler _ _ (turns-kept laws n (z .0) (z .1) filler turns (opening-if false number cells stations filler) no-log (opened-kept (lawful laws n (z .0) (z .1)) filler number cells stations refl))
+        λ turns.
+          promise laws n (z .0) (z .1) filler _ _
+            (turns-kept laws n (z .0) (z .1) filler turns (opening-if false number cells stations filler)
+               no-log
+               (opened-kept (lawful laws n (z .0) (z .1)) filler number cells stations refl))

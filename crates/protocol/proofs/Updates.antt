@@ -17,8 +17,12 @@ pub updated-other : {A : Type 0} (f : ℕ → A) (p q : ℕ) (a : A) → p ≢ q
 updated-other f p q a ne = grind arith
 
 -- what holds of a at p and of f elsewhere holds of the update
-pub updated-all : {A : Type 0} (P : ℕ → A → Type 0) (f : ℕ → A) (p : ℕ) (a : A) → P p a → ((q : ℕ) → p ≢ q → P q (f q)) → (q : ℕ) → P q (updated f p a q)
-updated-all P f p a h o q = ⊎-elim (λ (e : p ≡ q). subst (P q) (sym (updated-at f p q a e)) (subst (λ i. P i a) e h)) (λ n. subst (P q) (sym (updated-other f p q a n)) (o q n)) (cases-eq p q)
+pub updated-all : {A : Type 0} (P : ℕ → A → Type 0) (f : ℕ → A) (p : ℕ) (a : A) → P p a → ((q : ℕ) → p ≢ q → P q (f q)) → (q : ℕ)
+    → P q (updated f p a q)
+updated-all P f p a h o q =
+    ⊎-elim
+      (λ (e : p ≡ q). subst (P q) (sym (updated-at f p q a e)) (subst (λ i. P i a) e h))
+      (λ n. subst (P q) (sym (updated-other f p q a n)) (o q n)) (cases-eq p q)
 
 -- an empty place is not occupied
 pub not-both : {K : Type 0} {c : Content K} → c ≡ empty → is-occupied c ≡ true → ⊥

@@ -22,10 +22,10 @@ use Rattle.protocol.proofs.Standings.{Told, stage-is}
 use Rattle.protocol.proofs.Holding.{holder}
 use Rattle.protocol.proofs.State.{State, contents-after, marks-after, with-station, step-by}
 use Rattle.protocol.proofs.Effects.{given, once, noted-once}
-use Rattle.protocol.proofs.Places.{length-after, contents-inside, nth-past}
+use Rattle.protocol.proofs.Places.{length-after, acted, contents-inside, nth-past}
 use Rattle.protocol.proofs.Ends.{left-over, Wide, Falls, falls, positive}
 use Rattle.protocol.proofs.Preserved.{updated-twice, Inv, rest-inv, rekey-inv, begin-inv, step-inv}
-use Rattle.protocol.proofs.Kept.{by-check, spare, seat, seats, state, inv-ext, stepped-is, acted, Kept, Goal}
+use Rattle.protocol.proofs.Kept.{by-check, spare, seat, seats, state, edge-unmarked, inv-ext, stepped-is, Kept, Goal}
 
 module _ {K : Type 0} {N : ℕ} (κ : Lawful K N) (filler : K) (w : World K) (g : Log K) (f : Kept κ filler w g) (k : K) where
   abbrev own-number : ℕ
@@ -59,7 +59,11 @@ module _ {K : Type 0} {N : ℕ} (κ : Lawful K N) (filler : K) (w : World K) (g 
       go false o e = ap (seat filler false) e
 
   mid-start : Mid (w .cells) Home
-  mid-start = record { hd = g .held; inv = begin-inv κ (state filler w g) (f .inv) own-number k (ap (λ x. x .stage) own-spare); others = λ s p n. refl; size = f .size }
+  mid-start =
+      record {
+        hd = g .held; inv = begin-inv κ (state filler w g) (f .inv) own-number k (ap (λ x. x .stage) own-spare); others = λ s p n. refl;
+        size = f .size;
+      }
 
   mid-step : (cs : List (Cell K)) (x : Stage) → Mid cs x → Mid (cells-after (decision (κ .kind) cs k x .act) cs) (decision (κ .kind) cs k x .next)
   mid-step cs x d = record {
@@ -69,7 +73,12 @@ module _ {K : Type 0} {N : ℕ} (κ : Lawful K N) (filler : K) (w : World K) (g 
       (sym (noted-once k (g .effects) (m .effect) (given x) (given (m .next)) (once (κ .kind) k x (contents cs) (marks cs))))
       (λ r. ap (λ z. z r) (sym (updated-twice (g .unfinished) own-number (busy x) (busy (m .next)))))
       (λ r p. refl) after-it;
-    others = λ s p n. cond-false (eqb own-number s) (watched (marks cs p) (marks-after (m .act) (marks cs) p) (d .hd own-number p)) (d .hd s p) (ne-eqb own-number s n) ∙ d .others s p n;
+    others =
+      λ s p n.
+        cond-false (eqb own-number s)
+          (watched (marks cs p) (marks-after (m .act) (marks cs) p) (d .hd own-number p))
+          (d .hd s p) (ne-eqb own-number s n)
+        ∙ d .others s p n;
     size = length-after (m .act) cs ∙ d .size;
   }
     where
@@ -80,9 +89,14 @@ module _ {K : Type 0} {N : ℕ} (κ : Lawful K N) (filler : K) (w : World K) (g 
       hd′ : ℕ → ℕ → Bool
       hd′ = λ s′ p. cond (eqb own-number s′) (watched (marks cs p) (marks-after (m .act) (marks cs) p) (d .hd own-number p)) (d .hd s′ p)
       after-it : Inv κ (step-by v own-number (fresh-at x) m (m .next))
-      after-it = subst (Inv κ) (stepped-is κ v own-number (fresh-at x) (updated-same (seats filler (w .stations)) own-number (fresh-at x))) (step-inv κ v (d .inv) own-number)
+      after-it =
+          subst (Inv κ)
+            (stepped-is κ v own-number (fresh-at x) (updated-same (seats filler (w .stations)) own-number (fresh-at x)))
+            (step-inv κ v (d .inv) own-number)
       act-is : ((p : ℕ) → contents (cells-after (m .act) cs) p ≡ contents-after (m .act) (contents cs) p) × ((p : ℕ) → marks (cells-after (m .act) cs) p ≡ marks-after (m .act) (marks cs) p)
-      act-is = acted κ cs v own-number (fresh-at x) m (m .next) (d .size) refl refl after-it
+      act-is =
+          acted (m .act) cs N (d .size) (after-it .core .edge-low) (after-it .core .edge-high)
+            (edge-unmarked κ (step-by v own-number (fresh-at x) m (m .next)) after-it)
 
   idle-held : (v : State K) → Inv κ v → (s : ℕ) → v .station s .stage ≡ Idle → (p : ℕ) → v .held s p ≡ false
   idle-held v i s e p = i .held-is s p ∙ sym (i .core .owned s p) ∙ ap (λ x. holder N x p) e
@@ -97,10 +111,38 @@ module _ {K : Type 0} {N : ℕ} (κ : Lawful K N) (filler : K) (w : World K) (g 
   mid-end : (cs : List (Cell K)) (x : Stage) → Mid cs x → holds-mark N x ≡ false → Kept κ filler (entered-cells cs) (entered-log (given x))
   mid-end cs x d h = record {
     inv = inv-ext κ v₂ (state filler (entered-cells cs) (entered-log (given x))) (λ p. refl) (λ p. refl)
-      (λ r. ⊎-elim (λ (z : own-number ≡ r). ap (seats filler (w .stations)) (sym z) ∙ own-spare ∙ sym (updated-at (v₁ .station) own-number r (spare filler) z)) (λ n. sym (updated-other (v₁ .station) own-number r (spare filler) n ∙ updated-other (v .station) own-number r (idled (v .station own-number)) n ∙ updated-other (seats filler (w .stations)) own-number r (fresh-at x) n)) (cases-eq own-number r))
+      (λ r.
+         ⊎-elim
+           (λ (z : own-number ≡ r). ap (seats filler (w .stations)) (sym z) ∙ own-spare ∙ sym (updated-at (v₁ .station) own-number r (spare filler) z))
+           (λ n.
+              sym
+                (updated-other (v₁ .station) own-number r (spare filler) n
+                 ∙ updated-other (v .station) own-number r (idled (v .station own-number)) n
+                 ∙ updated-other (seats filler (w .stations)) own-number r (fresh-at x) n))
+           (cases-eq own-number r))
       refl
-      (λ r. ⊎-elim (λ (z : own-number ≡ r). ap (g .unfinished) (sym z) ∙ f .inv .busy-is own-number ∙ ap (λ y. busy (y .stage)) own-spare ∙ sym (updated-at (v₁ .unfinished) own-number r false z)) (λ n. sym (updated-other (v₁ .unfinished) own-number r false n ∙ updated-other (v .unfinished) own-number r false n ∙ updated-other (g .unfinished) own-number r (busy x) n)) (cases-eq own-number r))
-      (λ s p. ⊎-elim (λ (z : own-number ≡ s). ap (λ y. g .held y p) (sym z) ∙ idle-held (state filler w g) (f .inv) own-number (ap (λ y. y .stage) own-spare) p ∙ sym (ap (λ y. d .hd y p) (sym z) ∙ idle-held v₂ i₂ own-number (ap (λ y. y .stage) (updated-same (v₁ .station) own-number (spare filler))) p)) (λ n. sym (d .others s p n)) (cases-eq own-number s))
+      (λ r.
+         ⊎-elim
+           (λ (z : own-number ≡ r).
+              ap (g .unfinished) (sym z)
+              ∙ f .inv .busy-is own-number
+              ∙ ap (λ y. busy (y .stage)) own-spare
+              ∙ sym (updated-at (v₁ .unfinished) own-number r false z))
+           (λ n.
+              sym
+                (updated-other (v₁ .unfinished) own-number r false n
+                 ∙ updated-other (v .unfinished) own-number r false n
+                 ∙ updated-other (g .unfinished) own-number r (busy x) n))
+           (cases-eq own-number r))
+      (λ s p.
+         ⊎-elim
+           (λ (z : own-number ≡ s).
+              ap (λ y. g .held y p) (sym z)
+              ∙ idle-held (state filler w g) (f .inv) own-number (ap (λ y. y .stage) own-spare) p
+              ∙ sym
+                  (ap (λ y. d .hd y p) (sym z)
+                   ∙ idle-held v₂ i₂ own-number (ap (λ y. y .stage) (updated-same (v₁ .station) own-number (spare filler))) p))
+           (λ n. sym (d .others s p n)) (cases-eq own-number s))
       i₂;
     size = d .size;
     answers = f .answers;
@@ -122,13 +164,15 @@ module _ {K : Type 0} {N : ℕ} (κ : Lawful K N) (filler : K) (w : World K) (g 
   Ended-kept o = Kept κ filler (entered-cells (o .0)) (log-enter k (whole-answer (standing (o .1))) g)
 
   -- after a step: it has ended, or it goes on
-  ends-kept : (cs : List (Cell K)) (x : Stage) → Mid cs x → is-idle x ≡ false → (o : List (Cell K) × Stage) → (busy x ≡ true → Ended-kept o) → (y : Standing) → Told x y → standing x ≡ y → Ended-kept (ends-by y (cs, x) o)
+  ends-kept : (cs : List (Cell K)) (x : Stage) → Mid cs x → is-idle x ≡ false → (o : List (Cell K) × Stage) → (busy x ≡ true → Ended-kept o)
+      → (y : Standing) → Told x y → standing x ≡ y → Ended-kept (ends-by y (cs, x) o)
   ends-kept cs x d h o i resting t e = absurd (both-ways (is-idle x) h (ap idle-by e))
   ends-kept cs x d h o i homing t e = subst (λ z. Ended-kept (cs, z)) (sym t) (mid-end cs Home (subst (Mid cs) t d) refl)
   ends-kept cs x d h o i under-way t e = i (ap busy-by e)
   ends-kept cs x d h o i (done a) t e = subst (λ z. Ended-kept (cs, z)) (sym t) (mid-end cs (Answered a) (subst (Mid cs) t d) refl)
 
-  alone-kept : (n : ℕ) (cs : List (Cell K)) (x : Stage) → Mid cs x → busy x ≡ true → Wide N x → left-over N (κ .kind .place k) x ≤ n → Ended-kept (alone (κ .kind) n k cs x)
+  alone-kept : (n : ℕ) (cs : List (Cell K)) (x : Stage) → Mid cs x → busy x ≡ true → Wide N x → left-over N (κ .kind .place k) x ≤ n
+      → Ended-kept (alone (κ .kind) n k cs x)
   unfolding alone Falls
   alone-kept zero cs x d b q le = let z = positive κ k x b in absurd (omega arith)
   alone-kept (suc n) cs x d b q le =
@@ -137,9 +181,14 @@ module _ {K : Type 0} {N : ℕ} (κ : Lawful K N) (filler : K) (w : World K) (g 
       let o = alone (κ .kind) n k cs′ (m .next) in
       let d′ = mid-step cs x d in
       ⊎-elim (λ e. subst (λ y. Ended-kept (ends-by (standing y) (cs′, y) o)) (sym e) (mid-end cs′ Home (subst (Mid cs′) e d′) refl))
-        (λ h. ends-kept cs′ (m .next) d′ (h .2) o (λ b′. alone-kept n cs′ (m .next) d′ b′ (h .0) (omega arith)) (standing (m .next)) (stage-is (m .next)) refl)
+        (λ h.
+           ends-kept cs′ (m .next) d′ (h .2) o
+             (λ b′. alone-kept n cs′ (m .next) d′ b′ (h .0) (omega arith)) (standing (m .next))
+             (stage-is (m .next)) refl)
         (falls κ k (contents cs) (marks cs) (contents-inside cs N (d .size)) x b q)
 
   pub entered-kept : Goal κ filler w g (enter k) (whole-entry (κ .kind) w k)
   unfolding whole-entry Goal Wide left-over
-  entered-kept = by-check (λ o. Kept κ filler (o .0) (log-enter k (o .1) g)) (bad-size N) WrongSize w _ f (λ _. alone-kept (enough N) (w .cells) Home mid-start refl tt (omega arith))
+  entered-kept =
+      by-check (λ o. Kept κ filler (o .0) (log-enter k (o .1) g)) (bad-size N) WrongSize w _ f
+        (λ _. alone-kept (enough N) (w .cells) Home mid-start refl tt (omega arith))
