@@ -79,15 +79,15 @@ module _ {K : Type 0} {N : ℕ} (κ : Lawful K N) (k : K) where
 
   module _ (T : ℕ → Content K) (M : ℕ → Bool) (inside : (p : ℕ) → is-occupied (T p) ≡ true → (0 < p) × (p ≤ N)) where
 
-    home-f : (b : Bool) (v : Versus) → versus (κ .kind) k (T (κ .kind .place k)) ≡ v → Falls Home (at-home k (κ .kind .place k) b v .next)
+    home-falls : (b : Bool) (v : Versus) → versus (κ .kind) k (T (κ .kind .place k)) ≡ v → Falls Home (at-home k (κ .kind .place k) b v .next)
     unfolding Falls Wide left-over
-    home-f true v e = inl refl
-    home-f false none e = inr (tt, omega arith, refl)
-    home-f false (is same) e = inr (tt, omega arith, refl)
-    home-f false (is after) e =
+    home-falls true v e = inl refl
+    home-falls false none e = inr (tt, omega arith, refl)
+    home-falls false (is same) e = inr (tt, omega arith, refl)
+    home-falls false (is after) e =
         let a = κ .place-low k in
         let b = κ .place-high k in let d = dist-left N (κ .kind .place k) (pred (κ .kind .place k)) (omega arith) in inr (tt, omega arith, refl)
-    home-f false (is before) e =
+    home-falls false (is before) e =
         let b = κ .place-high k in let d = dist-right N (κ .kind .place k) (suc (κ .kind .place k)) (omega arith) in inr (tt, omega arith, refl)
 
     -- a walk that goes on comes nearer
@@ -111,11 +111,11 @@ module _ {K : Type 0} {N : ℕ} (κ : Lawful K N) (k : K) where
           (λ a. let e = dist-home N (κ .kind .place k) p (omega arith) in omega arith)
           (cases-lt (κ .kind .place k) p)
 
-    walk-f : (p : ℕ) (v : Versus) → versus (κ .kind) k (T p) ≡ v → (q : ℕ) → walk-at (κ .kind .place k) p v ≡ Onward q
+    walk-falls : (p : ℕ) (v : Versus) → versus (κ .kind) k (T p) ≡ v → (q : ℕ) → walk-at (κ .kind .place k) p v ≡ Onward q
         → dist N (κ .kind .place k) q < dist N (κ .kind .place k) p
-    walk-f p none e q w = let z : _≡_ {A = ℕ} 0 1 = cc in absurd (omega arith)
-    walk-f p (is same) e q w = let z : _≡_ {A = ℕ} 0 1 = cc in absurd (omega arith)
-    walk-f p (is after) e q w = by-test (leb p (κ .kind .place k)) refl w
+    walk-falls p none e q w = let z : _≡_ {A = ℕ} 0 1 = cc in absurd (omega arith)
+    walk-falls p (is same) e q w = let z : _≡_ {A = ℕ} 0 1 = cc in absurd (omega arith)
+    walk-falls p (is after) e q w = by-test (leb p (κ .kind .place k)) refl w
       where
         by-test : (b : Bool) → leb p (κ .kind .place k) ≡ b → cond b (Onward (pred p)) Ended ≡ Onward q
             → dist N (κ .kind .place k) q < dist N (κ .kind .place k) p
@@ -124,7 +124,7 @@ module _ {K : Type 0} {N : ℕ} (κ : Lawful K N) (k : K) where
               (λ y. dist N (κ .kind .place k) y < dist N (κ .kind .place k) p) (let z : pred p ≡ q = cc in z)
               (nearer-left p e (leb-true p (κ .kind .place k) t))
         by-test false t w = let z : _≡_ {A = ℕ} 0 1 = cc in absurd (omega arith)
-    walk-f p (is before) e q w = by-test (leb (κ .kind .place k) p) refl w
+    walk-falls p (is before) e q w = by-test (leb (κ .kind .place k) p) refl w
       where
         by-test : (b : Bool) → leb (κ .kind .place k) p ≡ b → cond b (Onward (suc p)) Ended ≡ Onward q
             → dist N (κ .kind .place k) q < dist N (κ .kind .place k) p
@@ -134,103 +134,103 @@ module _ {K : Type 0} {N : ℕ} (κ : Lawful K N) (k : K) where
               (nearer-right p e (leb-true (κ .kind .place k) p t))
         by-test false t w = let z : _≡_ {A = ℕ} 0 1 = cc in absurd (omega arith)
 
-    look-f : (p : ℕ) (w : Walk) → ((q : ℕ) → w ≡ Onward q → dist N (κ .kind .place k) q < dist N (κ .kind .place k) p)
+    look-falls : (p : ℕ) (w : Walk) → ((q : ℕ) → w ≡ Onward q → dist N (κ .kind .place k) q < dist N (κ .kind .place k) p)
         → Falls (Look p) (at-look {K = K} (κ .kind .place k) w .next)
     unfolding Falls Wide left-over
-    look-f p Here f = inr (tt, omega arith, refl)
-    look-f p Ended f = let b = κ .place-high k in inr (omega arith, omega arith, refl)
-    look-f p (Onward q) f = let d = f q refl in inr (tt, omega arith, refl)
+    look-falls p Here f = inr (tt, omega arith, refl)
+    look-falls p Ended f = let b = κ .place-high k in inr (omega arith, omega arith, refl)
+    look-falls p (Onward q) f = let d = f q refl in inr (tt, omega arith, refl)
 
-    left-f : (p : ℕ) → p ≤ N → (b o : Bool) → is-occupied (T p) ≡ o → Falls (Left p) (at-left {K = K} (κ .kind .place k) p b o .next)
+    left-falls : (p : ℕ) → p ≤ N → (b o : Bool) → is-occupied (T p) ≡ o → Falls (Left p) (at-left {K = K} (κ .kind .place k) p b o .next)
     unfolding Falls Wide left-over
-    left-f p le true o e = inl refl
-    left-f p le false true e = let i = inside p e in inr (omega arith, omega arith, refl)
-    left-f p le false false e = let b = κ .place-high k in inr (omega arith, omega arith, refl)
+    left-falls p le true o e = inl refl
+    left-falls p le false true e = let i = inside p e in inr (omega arith, omega arith, refl)
+    left-falls p le false false e = let b = κ .place-high k in inr (omega arith, omega arith, refl)
 
-    right-f : (l p : ℕ) → p ≤ suc N → (b o : Bool) → is-occupied (T p) ≡ o → Falls (Right l p) (at-right {K = K} l p b o .next)
+    right-falls : (l p : ℕ) → p ≤ suc N → (b o : Bool) → is-occupied (T p) ≡ o → Falls (Right l p) (at-right {K = K} l p b o .next)
     unfolding Falls Wide left-over
-    right-f l p le true o e = inl refl
-    right-f l p le false true e = let i = inside p e in inr (omega arith, omega arith, refl)
-    right-f l p le false false e = inr (le, omega arith, refl)
+    right-falls l p le true o e = inl refl
+    right-falls l p le false true e = let i = inside p e in inr (omega arith, omega arith, refl)
+    right-falls l p le false false e = inr (le, omega arith, refl)
 
-    first-f : (l r : ℕ) → r ≤ suc N → (c b o : Bool) → Falls (FirstMark l r) (at-first {K = K} l r c b o .next)
+    first-falls : (l r : ℕ) → r ≤ suc N → (c b o : Bool) → Falls (FirstMark l r) (at-first {K = K} l r c b o .next)
     unfolding Falls Wide left-over
-    first-f l r le false b o = inr (le, omega arith, refl)
-    first-f l r le true true o = inl refl
-    first-f l r le true false true = inl refl
-    first-f l r le true false false = inr (le, omega arith, refl)
+    first-falls l r le false b o = inr (le, omega arith, refl)
+    first-falls l r le true true o = inl refl
+    first-falls l r le true false true = inl refl
+    first-falls l r le true false false = inr (le, omega arith, refl)
 
-    give-f : (l r : ℕ) (c : Bool) → Falls (SecondMark l r) (give-up {K = K} l c .next)
+    give-falls : (l r : ℕ) (c : Bool) → Falls (SecondMark l r) (give-up {K = K} l c .next)
     unfolding Falls Wide left-over
-    give-f l r true = inr (tt, omega arith, refl)
-    give-f l r false = inl refl
+    give-falls l r true = inr (tt, omega arith, refl)
+    give-falls l r false = inl refl
 
-    second-f : (l r : ℕ) → r ≤ suc N → (a c b o : Bool) → Falls (SecondMark l r) (at-second {K = K} (κ .kind .place k) l r a c b o .next)
+    second-falls : (l r : ℕ) → r ≤ suc N → (a c b o : Bool) → Falls (SecondMark l r) (at-second {K = K} (κ .kind .place k) l r a c b o .next)
     unfolding Falls Wide left-over
-    second-f l r le a false b o = let d = dist-home N (κ .kind .place k) (κ .kind .place k) refl in inr (le, omega arith, refl)
-    second-f l r le a true true o = give-f l r a
-    second-f l r le a true false true = give-f l r a
-    second-f l r le a true false false = let d = dist-home N (κ .kind .place k) (κ .kind .place k) refl in inr (le, omega arith, refl)
+    second-falls l r le a false b o = let d = dist-home N (κ .kind .place k) (κ .kind .place k) refl in inr (le, omega arith, refl)
+    second-falls l r le a true true o = give-falls l r a
+    second-falls l r le a true false true = give-falls l r a
+    second-falls l r le a true false false = let d = dist-home N (κ .kind .place k) (κ .kind .place k) refl in inr (le, omega arith, refl)
 
-    absent-f : (l r p : ℕ) → r ≤ suc N → (x y b : Bool) → Falls (Check l r p) (absent {K = K} l r x y b .next)
+    absent-falls : (l r p : ℕ) → r ≤ suc N → (x y b : Bool) → Falls (Check l r p) (absent {K = K} l r x y b .next)
     unfolding Falls Wide left-over
-    absent-f l r p le false false b = inr (tt, omega arith, refl)
-    absent-f l r p le false true b = inr (tt, omega arith, refl)
-    absent-f l r p le true false b = inr (tt, omega arith, refl)
-    absent-f l r p le true true true = inr (tt, omega arith, refl)
-    absent-f l r p le true true false = inr (tt, omega arith, refl)
+    absent-falls l r p le false false b = inr (tt, omega arith, refl)
+    absent-falls l r p le false true b = inr (tt, omega arith, refl)
+    absent-falls l r p le true false b = inr (tt, omega arith, refl)
+    absent-falls l r p le true true true = inr (tt, omega arith, refl)
+    absent-falls l r p le true true false = inr (tt, omega arith, refl)
 
-    check-f : (l r p : ℕ) → r ≤ suc N → (x y b : Bool) (w : Walk)
+    check-falls : (l r p : ℕ) → r ≤ suc N → (x y b : Bool) (w : Walk)
         → ((q : ℕ) → w ≡ Onward q → dist N (κ .kind .place k) q < dist N (κ .kind .place k) p)
         → Falls (Check l r p) (at-check {K = K} l r x y b w .next)
     unfolding Falls Wide left-over
-    check-f l r p le x y b Here f = inr (tt, omega arith, refl)
-    check-f l r p le x y b Ended f = absent-f l r p le x y b
-    check-f l r p le x y b (Onward q) f = let d = f q refl in inr (le, omega arith, refl)
+    check-falls l r p le x y b Here f = inr (tt, omega arith, refl)
+    check-falls l r p le x y b Ended f = absent-falls l r p le x y b
+    check-falls l r p le x y b (Onward q) f = let d = f q refl in inr (le, omega arith, refl)
 
-    copied-f : (d : Direction) (l r g : ℕ) (x : K) → is-occupied (T (beside d g)) ≡ true → (b : Bool)
+    copied-falls : (d : Direction) (l r g : ℕ) (x : K) → is-occupied (T (beside d g)) ≡ true → (b : Bool)
         → Falls (Shift d l r g) (copied k d l r g x b .next)
     unfolding Falls Wide left-over
-    copied-f Leftward l r g x o true = let i = inside g o in let z : pred g + 4 < g + 4 = omega arith in inr (tt, z, refl)
-    copied-f Leftward l r g x o false = inr (tt, omega arith, refl)
-    copied-f Rightward l r g x o true = let i = inside (suc (suc g)) o in let z : (N - suc g) + 3 < (N - g) + 3 = omega arith in inr (tt, z, refl)
-    copied-f Rightward l r g x o false = inr (tt, omega arith, refl)
+    copied-falls Leftward l r g x o true = let i = inside g o in let z : pred g + 4 < g + 4 = omega arith in inr (tt, z, refl)
+    copied-falls Leftward l r g x o false = inr (tt, omega arith, refl)
+    copied-falls Rightward l r g x o true = let i = inside (suc (suc g)) o in let z : (N - suc g) + 3 < (N - g) + 3 = omega arith in inr (tt, z, refl)
+    copied-falls Rightward l r g x o false = inr (tt, omega arith, refl)
 
-    settles-f : (d : Direction) (l r g : ℕ) → Falls (Shift d l r g) (ReleaseLeft l r Inserted)
+    settles-falls : (d : Direction) (l r g : ℕ) → Falls (Shift d l r g) (ReleaseLeft l r Inserted)
     unfolding Falls Wide left-over
-    settles-f Leftward l r g = inr (tt, omega arith, refl)
-    settles-f Rightward l r g = inr (tt, omega arith, refl)
+    settles-falls Leftward l r g = inr (tt, omega arith, refl)
+    settles-falls Rightward l r g = inr (tt, omega arith, refl)
 
-    shift-f : (d : Direction) (l r g : ℕ) (c : Content K) → T (beside d g) ≡ c → Falls (Shift d l r g) (at-shift (κ .kind) k d l r g c .next)
-    shift-f d l r g empty e = settles-f d l r g
-    shift-f d l r g (holds x) e = copied-f d l r g x (holds-occ e) (copy-due d (κ .kind .order x k))
+    shift-falls : (d : Direction) (l r g : ℕ) (c : Content K) → T (beside d g) ≡ c → Falls (Shift d l r g) (at-shift (κ .kind) k d l r g c .next)
+    shift-falls d l r g empty e = settles-falls d l r g
+    shift-falls d l r g (holds x) e = copied-falls d l r g x (holds-occ e) (copy-due d (κ .kind .order x k))
 
-    release-f : (l r : ℕ) (a : Answer) (c : Bool) → Falls (ReleaseLeft l r a) (release {K = K} l c (ReleaseRight r a) .next)
+    release-left-falls : (l r : ℕ) (a : Answer) (c : Bool) → Falls (ReleaseLeft l r a) (release {K = K} l c (ReleaseRight r a) .next)
     unfolding Falls Wide left-over
-    release-f l r a true = inr (tt, omega arith, refl)
-    release-f l r a false = inr (tt, omega arith, refl)
+    release-left-falls l r a true = inr (tt, omega arith, refl)
+    release-left-falls l r a false = inr (tt, omega arith, refl)
 
-    release-r-f : (r : ℕ) (a : Answer) (c : Bool) → Falls (ReleaseRight r a) (release {K = K} r c (Answered a) .next)
+    release-right-falls : (r : ℕ) (a : Answer) (c : Bool) → Falls (ReleaseRight r a) (release {K = K} r c (Answered a) .next)
     unfolding Falls Wide left-over
-    release-r-f r a true = inr (tt, omega arith, refl)
-    release-r-f r a false = inr (tt, omega arith, refl)
+    release-right-falls r a true = inr (tt, omega arith, refl)
+    release-right-falls r a false = inr (tt, omega arith, refl)
 
     pub falls : (x : Stage) → busy x ≡ true → Wide N x → Falls x (decide (κ .kind) k x T M .next)
     unfolding Wide Falls
     falls Idle b w = absurd (both-ways false refl b)
-    falls Home b w = home-f (M (κ .kind .place k)) (versus (κ .kind) k (T (κ .kind .place k))) refl
-    falls (Look p) b w = look-f p (walk-at (κ .kind .place k) p (versus (κ .kind) k (T p))) (walk-f p (versus (κ .kind) k (T p)) refl)
-    falls (Left p) b w = left-f p w (M p) (is-occupied (T p)) refl
-    falls (Right l p) b w = right-f l p w (M p) (is-occupied (T p)) refl
-    falls (FirstMark l r) b w = first-f l r w (cell N l) (M l) (is-occupied (T l))
-    falls (SecondMark l r) b w = second-f l r w (cell N l) (cell N r) (M r) (is-occupied (T r))
+    falls Home b w = home-falls (M (κ .kind .place k)) (versus (κ .kind) k (T (κ .kind .place k))) refl
+    falls (Look p) b w = look-falls p (walk-at (κ .kind .place k) p (versus (κ .kind) k (T p))) (walk-falls p (versus (κ .kind) k (T p)) refl)
+    falls (Left p) b w = left-falls p w (M p) (is-occupied (T p)) refl
+    falls (Right l p) b w = right-falls l p w (M p) (is-occupied (T p)) refl
+    falls (FirstMark l r) b w = first-falls l r w (cell N l) (M l) (is-occupied (T l))
+    falls (SecondMark l r) b w = second-falls l r w (cell N l) (cell N r) (M r) (is-occupied (T r))
     falls (GiveBack g) b w = inl refl
     falls (Check l r p) b w =
-        check-f l r p w (cell N l) (cell N r) (is-after (versus (κ .kind) k (T (κ .kind .place k))))
-          (walk-at (κ .kind .place k) p (versus (κ .kind) k (T p))) (walk-f p (versus (κ .kind) k (T p)) refl)
-    falls (Shift d l r g) b w = shift-f d l r g (T (beside d g)) refl
-    falls (ReleaseLeft l r a) b w = release-f l r a (cell N l)
-    falls (ReleaseRight r a) b w = release-r-f r a (cell N r)
+        check-falls l r p w (cell N l) (cell N r) (is-after (versus (κ .kind) k (T (κ .kind .place k))))
+          (walk-at (κ .kind .place k) p (versus (κ .kind) k (T p))) (walk-falls p (versus (κ .kind) k (T p)) refl)
+    falls (Shift d l r g) b w = shift-falls d l r g (T (beside d g)) refl
+    falls (ReleaseLeft l r a) b w = release-left-falls l r a (cell N l)
+    falls (ReleaseRight r a) b w = release-right-falls r a (cell N r)
     falls (Answered a) b w = absurd (both-ways false refl b)
 
   pub positive : (x : Stage) → busy x ≡ true → 0 < left-over N (κ .kind .place k) x

@@ -19,11 +19,11 @@ use Rattle.protocol.proofs.Lawful.{Lawful}
 use Rattle.protocol.proofs.Updates.{updated-same, updated-at, updated-other, updated-all}
 use Rattle.protocol.proofs.Standings.{Told, stage-is, idle-is, settled-same, busy-not-idle, finish-is}
 use Rattle.protocol.proofs.Holding.{holder-cell}
-use Rattle.protocol.proofs.State.{State, contents-after, marks-after, with-station, step-by, step-with, stepped}
+use Rattle.protocol.proofs.State.{State, with-station, step-by, step-with, stepped}
 use Rattle.protocol.proofs.Invariant.{Owner, free, by, taken, is-by, is-by-self}
 use Rattle.protocol.proofs.Effects.{given, once}
 use Rattle.protocol.proofs.Named.{named-settled, named-kept}
-use Rattle.protocol.proofs.Places.{length-after, acted, contents-inside, nth-same, nth-other}
+use Rattle.protocol.proofs.Places.{length-after, Acted, acted, contents-inside, nth-same, nth-other}
 use Rattle.protocol.proofs.Preserved.{Inv, rest-inv, leaving-inv, begin-inv, step-inv}
 
 edge-no-cell : (N q : ℕ) → (q ≡ 0) ⊎ (N < q) → cell N q ≡ true → ⊥
@@ -201,30 +201,30 @@ module _ {K : Type 0} {N : ℕ} (κ : Lawful K N) where
               v = o .0
               after-it : Inv κ (step-by (state filler w g) s u m x)
               after-it = subst (Inv κ) (stepped-is (state filler w g) s u seat-is) (step-inv κ (state filler w g) (f .inv) s)
-              act-is : ((p : ℕ) → contents (v .cells) p ≡ contents-after (m .act) (contents (w .cells)) p) × ((p : ℕ) → marks (v .cells) p ≡ marks-after (m .act) (marks (w .cells)) p)
+              act-is : Acted (m .act) (w .cells)
               act-is =
                   acted (m .act) (w .cells) N (f .size) (after-it .core .edge-low) (after-it .core .edge-high)
                     (edge-unmarked (step-by (state filler w g) s u m x) after-it)
               kept : Kept v (log-at (κ .kind) w s (holds u) o g)
               kept = record {
                 inv =
-                    inv-ext (step-by (state filler w g) s u m x)
-                      (state filler v (log-at (κ .kind) w s (holds u) o g)) (act-is .0) (act-is .1)
-                      (seats-set t) refl
-                  (λ q. ap (λ y. updated (g .unfinished) s y q) (finish-is x (g .unfinished s) (open-unfinished ∙ h)))
-                  (λ q p. ap (λ y. cond (eqb s q) (watched (marks (w .cells) p) y (g .held s p)) (g .held q p)) (act-is .1 p)) after-it;
+                  inv-ext (step-by (state filler w g) s u m x) (state filler v (log-at (κ .kind) w s (holds u) o g)) (act-is .0) (act-is .1) (seats-set t) refl
+                    (λ q. ap (λ y. updated (g .unfinished) s y q) (finish-is x (g .unfinished s) (open-unfinished ∙ h)))
+                    (λ q p. ap (λ y. cond (eqb s q) (watched (marks (w .cells) p) y (g .held s p)) (g .held q p)) (act-is .1 p))
+                    after-it;
                 size = length-after (m .act) (w .cells) ∙ f .size;
                 answers =
-                    seated-all (λ r y. is-idle (y .stage) ≡ false → updated (g .answer) s (latest (m .effect) (g .answer s)) r ≡ given (y .stage)) t
-                  (λ i.
-                     updated-same (g .answer) s (latest (m .effect) (g .answer s))
-                     ∙ ap (latest (m .effect)) (answer-is (busy-not-idle (u .stage) h))
-                     ∙ once (κ .kind) (u .key) (u .stage) (contents (w .cells)) (marks (w .cells)) .1
-                     ∙ ap given (sym (settled-same (u .withdrawn) (m .next) i)))
-                  (λ r n i. updated-other (g .answer) s r (latest (m .effect) (g .answer s)) n ∙ f .answers r i);
-                named = seated-all (λ r y. names-cells N (y .stage) ≡ true) t
-                  (named-settled N (u .withdrawn) (m .next)
-                     (named-kept κ (u .key) (contents (w .cells)) (marks (w .cells)) (contents-inside (w .cells) N (f .size)) (u .stage) named-is))
+                  seated-all (λ r y. is-idle (y .stage) ≡ false → updated (g .answer) s (latest (m .effect) (g .answer s)) r ≡ given (y .stage)) t
+                    (λ i.
+                       updated-same (g .answer) s (latest (m .effect) (g .answer s))
+                       ∙ ap (latest (m .effect)) (answer-is (busy-not-idle (u .stage) h))
+                       ∙ once (κ .kind) (u .key) (u .stage) (contents (w .cells)) (marks (w .cells)) .1
+                       ∙ ap given (sym (settled-same (u .withdrawn) (m .next) i)))
+                    (λ r n i. updated-other (g .answer) s r (latest (m .effect) (g .answer s)) n ∙ f .answers r i);
+                named =
+                  seated-all (λ r y. names-cells N (y .stage) ≡ true) t
+                    (named-settled N (u .withdrawn) (m .next)
+                       (named-kept κ (u .key) (contents (w .cells)) (marks (w .cells)) (contents-inside (w .cells) N (f .size)) (u .stage) named-is))
                     (λ r n. f .named r);
               }
 
@@ -250,7 +250,8 @@ module _ {K : Type 0} {N : ℕ} (κ : Lawful K N) where
             by-check (Goal w g (step s)) (bad-size N) WrongSize w _ (step-refused WrongSize) (λ _.
               by-station (Goal w g (step s)) w s _ (step-refused NoStation) (λ b u e.
                 by-check (Goal w g (step s)) (not (busy (u .stage))) NoEntry w _ (step-refused NoEntry) (λ h.
-                  by-check (Goal w g (step s)) (not (names-cells N (u .stage))) NoCell w _ (step-refused NoCell) (λ _. step-kept b u e (not-false (busy (u .stage)) h)))))
+                  by-check (Goal w g (step s)) (not (names-cells N (u .stage))) NoCell w _ (step-refused NoCell) (λ _.
+                    step-kept b u e (not-false (busy (u .stage)) h)))))
 
         pub collected-kept : (n : ℕ) → Goal w g (collect n s) (collecting N w n s)
         unfolding collecting Goal
@@ -266,7 +267,8 @@ module _ {K : Type 0} {N : ℕ} (κ : Lawful K N) where
             by-check (Goal w g (withdraw n s)) (bad-size N) WrongSize w _ f (λ _.
               by-check (Goal w g (withdraw n s)) (not (eqb n (w .number))) OtherRegister w _ f (λ _.
                 by-station (Goal w g (withdraw n s)) w s _ f (λ b u e.
-                  by-check (Goal w g (withdraw n s)) (is-idle (u .stage) || u .withdrawn) NoEntry w _ f (λ _. withdraw-kept b u e n (holds-mark N (u .stage)) refl))))
+                  by-check (Goal w g (withdraw n s)) (is-idle (u .stage) || u .withdrawn) NoEntry w _ f (λ _.
+                    withdraw-kept b u e n (holds-mark N (u .stage)) refl))))
 
         -- no record names a cell that is none
         pub never-stray : stepping (κ .kind) w s .1 ≡ Err NoCell → ⊥
@@ -275,7 +277,8 @@ module _ {K : Type 0} {N : ℕ} (κ : Lawful K N) where
             by-check Other (bad-size N) WrongSize w _ (by-number WrongSize (omega arith)) (λ _.
               by-station Other w s _ (by-number NoStation (omega arith)) (λ b u e.
                 by-check Other (not (busy (u .stage))) NoEntry w _ (by-number NoEntry (omega arith)) (λ _.
-                  subst (λ x. Other (refused-if (not x) NoCell w (stepping-by w s u (decision (κ .kind) (w .cells) (u .key) (u .stage))))) (sym (named-is b u e)) (λ z. let y : _≡_ {A = ℕ} 0 1 = cc in omega arith))))
+                  subst (λ x. Other (refused-if (not x) NoCell w (stepping-by w s u (decision (κ .kind) (w .cells) (u .key) (u .stage))))) (sym (named-is b u e))
+                    (λ z. let y : _≡_ {A = ℕ} 0 1 = cc in omega arith))))
           where
             Other : Out K Progress → Type 0
             Other o = o .1 ≡ Err NoCell → ⊥

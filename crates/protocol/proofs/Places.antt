@@ -148,13 +148,16 @@ module _ {K : Type 0} where
   marks-act (Unmark p) cs e q = marks-mark false p cs e q
   marks-act (Write p x) cs e q = marks-put x p cs q
 
-  -- an act on the cells, by place, where it leaves the edges as they are
+  -- an act on the cells, by place
+  abbrev pub Acted : Act K → List (Cell K) → Type 0
+  Acted a cs =
+      ((p : ℕ) → contents (cells-after a cs) p ≡ contents-after a (contents cs) p) × ((p : ℕ) → marks (cells-after a cs) p ≡ marks-after a (marks cs) p)
+
+  -- so it is where the act leaves the edges as they are
   pub acted : (a : Act K) (cs : List (Cell K)) (n : ℕ) → length cs ≡ n
       → contents-after a (contents cs) 0 ≡ empty → ((p : ℕ) → n < p → contents-after a (contents cs) p ≡ empty)
       → ((p : ℕ) → (p ≡ 0) ⊎ (n < p) → marks-after a (marks cs) p ≡ false)
-      →
-        ((p : ℕ) → contents (cells-after a cs) p ≡ contents-after a (contents cs) p)
-        × ((p : ℕ) → marks (cells-after a cs) p ≡ marks-after a (marks cs) p)
+      → Acted a cs
   acted a cs n size low high none-marked =
       (contents-act a cs (λ q o. ⊎-elim (λ (z : q ≡ 0). ap (contents-after a (contents cs)) z ∙ low) (λ lt. high q lt) (off q o)),
        marks-act a cs (λ q o. none-marked q (off q o)))

@@ -85,6 +85,13 @@ module _ {K : Type 0} {N : ℕ} (κ : Lawful K N) where
 -- a key whose home lies between two empty places lies there itself
 pub between-only : {K : Type 0} {N : ℕ} (κ : Lawful K N) {S : ℕ → Content K} (ok : Sorted κ S) (k : K) (l r q : ℕ) → S l ≡ empty → S r ≡ empty
     → l < κ .kind .place k → κ .kind .place k < r → S q ≡ holds k → (l < q) × (q < r)
-between-only κ {S} ok k l r q sl sr lh hr z =
-    (⊎-elim (λ a. a) (λ (a : q ≤ l). absurd (⊎-elim (λ (y : q ≡ l). not-both sl (holds-occ (ap S (sym y) ∙ z))) (λ n. let b = home-left κ ok l q k sl (omega arith) z in omega arith) (cases-eq q l))) (cases-lt l q),
-     ⊎-elim (λ a. a) (λ (a : r ≤ q). absurd (⊎-elim (λ (y : q ≡ r). not-both sr (holds-occ (ap S (sym y) ∙ z))) (λ n. let b = home-right κ ok r q k sr (omega arith) z in omega arith) (cases-eq q r))) (cases-lt q r))
+between-only κ {S} ok k l r q sl sr lh hr z = (⊎-elim (λ a. a) (λ a. absurd (low a)) (cases-lt l q), ⊎-elim (λ a. a) (λ a. absurd (high a)) (cases-lt q r))
+  where
+    low : q ≤ l → ⊥
+    low a =
+        ⊎-elim (λ (y : q ≡ l). not-both sl (holds-occ (ap S (sym y) ∙ z)))
+          (λ n. let b = home-left κ ok l q k sl (omega arith) z in omega arith) (cases-eq q l)
+    high : r ≤ q → ⊥
+    high a =
+        ⊎-elim (λ (y : q ≡ r). not-both sr (holds-occ (ap S (sym y) ∙ z)))
+          (λ n. let b = home-right κ ok r q k sr (omega arith) z in omega arith) (cases-eq q r)

@@ -100,7 +100,8 @@ module _ {K : Type 0} {N : ℕ} (κ : Lawful K N) (filler : K) where
       by-check Gives (bad-size N) WrongSize w _ no-answer (λ _.
         by-check Gives (not (eqb n (w .number))) OtherRegister w _ no-answer (λ _.
           by-station Gives w s _ no-answer (λ b u e.
-            by-check Gives (u .withdrawn) NoEntry w _ no-answer (λ _. given-at u (ap (λ x. seat filler x (nth (w .stations) s)) b ∙ ap (seat filler false) e) (standing (u .stage)) (stage-is (u .stage))))))
+            by-check Gives (u .withdrawn) NoEntry w _ no-answer (λ _.
+              given-at u (ap (λ x. seat filler x (nth (w .stations) s)) b ∙ ap (seat filler false) e) (standing (u .stage)) (stage-is (u .stage))))))
     where
       Gives : Out K Answer → Type 0
       Gives o = o .1 ≡ Ok a → g .answer s ≡ took a

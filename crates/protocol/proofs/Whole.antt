@@ -20,9 +20,9 @@ use Rattle.protocol.proofs.Lawful.{Lawful}
 use Rattle.protocol.proofs.Updates.{updated-same, updated-at, updated-other}
 use Rattle.protocol.proofs.Standings.{Told, stage-is}
 use Rattle.protocol.proofs.Holding.{holder}
-use Rattle.protocol.proofs.State.{State, contents-after, marks-after, with-station, step-by}
+use Rattle.protocol.proofs.State.{State, marks-after, with-station, step-by}
 use Rattle.protocol.proofs.Effects.{given, once, noted-once}
-use Rattle.protocol.proofs.Places.{length-after, acted, contents-inside, nth-past}
+use Rattle.protocol.proofs.Places.{length-after, Acted, acted, contents-inside, nth-past}
 use Rattle.protocol.proofs.Ends.{left-over, Wide, Falls, falls, positive}
 use Rattle.protocol.proofs.Preserved.{updated-twice, Inv, rest-inv, rekey-inv, begin-inv, step-inv}
 use Rattle.protocol.proofs.Kept.{by-check, spare, seat, seats, state, edge-unmarked, inv-ext, stepped-is, Kept, Goal}
@@ -93,7 +93,7 @@ module _ {K : Type 0} {N : ℕ} (κ : Lawful K N) (filler : K) (w : World K) (g 
           subst (Inv κ)
             (stepped-is κ v own-number (fresh-at x) (updated-same (seats filler (w .stations)) own-number (fresh-at x)))
             (step-inv κ v (d .inv) own-number)
-      act-is : ((p : ℕ) → contents (cells-after (m .act) cs) p ≡ contents-after (m .act) (contents cs) p) × ((p : ℕ) → marks (cells-after (m .act) cs) p ≡ marks-after (m .act) (marks cs) p)
+      act-is : Acted (m .act) cs
       act-is =
           acted (m .act) cs N (d .size) (after-it .core .edge-low) (after-it .core .edge-high)
             (edge-unmarked κ (step-by v own-number (fresh-at x) m (m .next)) after-it)
