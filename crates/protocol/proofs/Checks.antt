@@ -10,14 +10,14 @@ use Rattle.protocol.specs.Cells.{Content, empty, holds, cell, is-occupied, upd
 use Rattle.protocol.specs.Stages.{Found, Full, Leftward, Rightward, Stage, Home, SecondMark, GiveBack, Check, Shift, ReleaseLeft}
 use Rattle.protocol.specs.Step.{Ordering, before, same, after, Walk, Ended, Onward, Versus, none, is, is-after, walk-at, goes-to, give-up, at-second, absent, at-check, versus, decide}
 use Rattle.protocol.specs.OneWorker.{is-greater, higher}
-use Rattle.protocol.proofs.Lawful.{Lawful, order-refl, order-back, versus-is, versus-holds, versus-none, versus-same, versus-occ}
-use Rattle.protocol.proofs.Updates.{not-both, occ-none}
+use Rattle.protocol.proofs.Lawful.{Lawful, order-refl, order-back, versus-is, versus-holds, versus-none, versus-same, versus-occupied}
+use Rattle.protocol.proofs.Updates.{not-both, unoccupied-empty}
 use Rattle.protocol.proofs.Sorted.{Sorted, between-only}
 use Rattle.protocol.proofs.Worker.{worker-full}
 use Rattle.protocol.proofs.Holding.{cell-parts, no-cell, off-edge, two-at-r, two-off-r, two-edge-r}
 use Rattle.protocol.proofs.Invariant.{Owner, by, In-shift, by-inj, Region, Checking, Core, region-mark, marked-by, still, own, marking}
-use Rattle.protocol.proofs.Regions.{hold-one, off-interval, apart-by, good-at, Fence, around, outside, clear}
-use Rattle.protocol.proofs.Steps.{Done, told, found-at}
+use Rattle.protocol.proofs.Regions.{hold-one, off-interval, apart-by, good-at, Closed, around, outside, clear}
+use Rattle.protocol.proofs.Steps.{Done, answer-kept, found-at}
 
 -- where the gap starts, in the one worker's words
 side-right : (N l r : ℕ) (b : Bool) → r ≤ N → (b ≡ true) ⊎ (l ≡ 0) → (leb r N && (b || eqb l 0)) ≡ true
@@ -71,7 +71,7 @@ module _ {K : Type 0} {N : ℕ} (κ : Lawful K N) {T : ℕ → Content K} {M : �
           (cases-eq r x))
         (cases-eq l x)
 
-  half-apart : (t l r l′ r′ p : ℕ) → s ≢ t → Half l r → Fence κ c t l′ r′ → (0 < l′) ⊎ (r′ ≤ N) → l ≤ p → p ≤ r → l′ ≤ p → p ≤ r′ → ⊥
+  half-apart : (t l r l′ r′ p : ℕ) → s ≢ t → Half l r → Closed κ c t l′ r′ → (0 < l′) ⊎ (r′ ≤ N) → l ≤ p → p ≤ r → l′ ≤ p → p ≤ r′ → ⊥
   half-apart t l r l′ r′ p n f g d a b a′ b′ =
       let hN = κ .place-high (ky s) in let hN′ = κ .place-high (ky t) in
       apart-by N p l r l′ r′
@@ -95,7 +95,7 @@ module _ {K : Type 0} {N : ℕ} (κ : Lawful K N) {T : ℕ → Content K} {M : �
           in
         ⊎-elim (λ z. z)
           (λ i. let w = around κ c (i .0) q (i .1) in
-                absurd (half-apart (i .0) l r (w .l) (w .r) q (λ y. subst (λ x. In-shift x q) (ap st (sym y) ∙ e) (i .1)) f (w .fenced) (w .some-cell) a b (w .l-p) (w .p-r)))
+                absurd (half-apart (i .0) l r (w .l) (w .r) q (λ y. subst (λ x. In-shift x q) (ap st (sym y) ∙ e) (i .1)) f (w .closed-region) (w .some-cell) a b (w .l-p) (w .p-r)))
           (c .agree q)
 
     checking : (M′ : ℕ → Bool) → Region κ T M′ (ky s) l r → T r ≡ empty → ((q : ℕ) → l ≤ q → q ≤ r → S q ≡ T q)
@@ -119,7 +119,7 @@ module _ {K : Type 0} {N : ℕ} (κ : Lawful K N) {T : ℕ → Content K} {M : �
     by-r true true o x m z = give (cell N l) refl
     by-r true false true x m z = give (cell N l) refl
     by-r true false false x m z =
-        let em = occ-none (T r) z in
+        let em = unoccupied-empty (T r) z in
         (marking κ c s (SecondMark l r) (Check l r (κ .kind .place (ky s))) r e m em (λ q n. two-off-r N l r q n) (two-at-r N l r x) (λ q i. i)
           (checking (updated M r true) (region-mark κ r em g) em (agreed (λ y. em) (λ y. m))), tt)
 
@@ -215,7 +215,7 @@ module _ {K : Type 0} {N : ℕ} (κ : Lawful K N) {T : ℕ → Content K} {M : �
           → Done κ c s (absent l r x y b)
       walk-over false false b x y z =
           let l-edge = off-left x in let r-edge = off-right y in
-          told κ c s (Check l r p) (ReleaseLeft l r Full) Full e (λ q. refl) (λ q i. absurd i) (omega arith)
+          answer-kept κ c s (Check l r p) (ReleaseLeft l r Full) Full e (λ q. refl) (λ q i. absurd i) (omega arith)
             (worker-full κ S (ky s) no-key
                (λ q a b. ap is-occupied (g .agree q (omega arith) (omega arith)) ∙ g .region .solid q (omega arith) (omega arith) .1))
             (λ z. let n : _≡_ {A = ℕ} 0 1 = cc in omega arith)
@@ -231,7 +231,7 @@ module _ {K : Type 0} {N : ℕ} (κ : Lawful K N) {T : ℕ → Content K} {M : �
     -- an occupied place lies between the boundaries
     inner : (o : Ordering) → versus (κ .kind) (ky s) (T p) ≡ is o → (l < p) × (p < r)
     inner o v =
-        let oc = versus-occ κ (ky s) (T p) o v in
+        let oc = versus-occupied κ (ky s) (T p) o v in
         (⊎-elim (λ a. a) (λ (a : p ≤ l). absurd (not-both (ap T (let y : p ≡ l = omega arith in y) ∙ g .el) oc)) (cases-lt l p),
          ⊎-elim (λ a. a) (λ (a : r ≤ p). absurd (not-both (ap T (let y : p ≡ r = omega arith in y) ∙ g .er) oc)) (cases-lt p r))
 

@@ -14,10 +14,10 @@ use Rattle.protocol.specs.Stages.{Answer, Inserted, Direction, Leftward, Right
 use Rattle.protocol.specs.Step.{before, same, after, Walk, Here, Ended, Onward, Versus, none, is, is-after, walk-at, beside, copy-due, at-home, at-look, at-left, at-right, at-first, give-up, at-second, absent, at-check, copied, release, versus, at-shift, decide}
 use Rattle.protocol.specs.Calls.{decision, ends-by, alone}
 use Rattle.protocol.specs.Safety.{Ended-stage}
-use Rattle.protocol.proofs.Lawful.{Lawful, versus-occ}
-use Rattle.protocol.proofs.Updates.{holds-occ}
+use Rattle.protocol.proofs.Lawful.{Lawful, versus-occupied}
+use Rattle.protocol.proofs.Updates.{holds-occupied}
 use Rattle.protocol.proofs.Sorted.{inside}
-use Rattle.protocol.proofs.Standings.{Told, stage-is}
+use Rattle.protocol.proofs.Standings.{Means, stage-is}
 use Rattle.protocol.proofs.Places.{length-after, contents-inside}
 
 -- how far a walk from home has yet to go at p
@@ -94,7 +94,7 @@ module _ {K : Type 0} {N : ℕ} (κ : Lawful K N) (k : K) where
     nearer-left : (p : ℕ) → versus (κ .kind) k (T p) ≡ is after → p ≤ κ .kind .place k
         → dist N (κ .kind .place k) (pred p) < dist N (κ .kind .place k) p
     nearer-left p v le =
-        let i = inside p (versus-occ κ k (T p) after v) in let b = κ .place-high k in
+        let i = inside p (versus-occupied κ k (T p) after v) in let b = κ .place-high k in
         let d = dist-left N (κ .kind .place k) (pred p) (omega arith) in
         ⊎-elim
           (λ (a : p < κ .kind .place k). let e = dist-left N (κ .kind .place k) p a in omega arith)
@@ -104,7 +104,7 @@ module _ {K : Type 0} {N : ℕ} (κ : Lawful K N) (k : K) where
     nearer-right : (p : ℕ) → versus (κ .kind) k (T p) ≡ is before → κ .kind .place k ≤ p
         → dist N (κ .kind .place k) (suc p) < dist N (κ .kind .place k) p
     nearer-right p v le =
-        let i = inside p (versus-occ κ k (T p) before v) in
+        let i = inside p (versus-occupied κ k (T p) before v) in
         let d = dist-right N (κ .kind .place k) (suc p) (omega arith) in
         ⊎-elim
           (λ (a : κ .kind .place k < p). let e = dist-right N (κ .kind .place k) p a in omega arith)
@@ -203,7 +203,7 @@ module _ {K : Type 0} {N : ℕ} (κ : Lawful K N) (k : K) where
 
     shift-falls : (d : Direction) (l r g : ℕ) (c : Content K) → T (beside d g) ≡ c → Falls (Shift d l r g) (at-shift (κ .kind) k d l r g c .next)
     shift-falls d l r g empty e = settles-falls d l r g
-    shift-falls d l r g (holds x) e = copied-falls d l r g x (holds-occ e) (copy-due d (κ .kind .order x k))
+    shift-falls d l r g (holds x) e = copied-falls d l r g x (holds-occupied e) (copy-due d (κ .kind .order x k))
 
     release-left-falls : (l r : ℕ) (a : Answer) (c : Bool) → Falls (ReleaseLeft l r a) (release {K = K} l c (ReleaseRight r a) .next)
     unfolding Falls Wide left-over
@@ -264,7 +264,7 @@ module _ {K : Type 0} {N : ℕ} (κ : Lawful K N) (k : K) where
           (λ u. alone-ends n after-it (m .next) (length-after (m .act) cs ∙ size) u (f .0) (omega arith)))
         (falls (contents cs) (marks cs) (contents-inside cs N size) x b w)
     where
-      by-standing : (cs : List (Cell K)) (x : Stage) (o : List (Cell K) × Stage) (y : Standing) → Told x y → standing x ≡ y → is-idle x ≡ false
+      by-standing : (cs : List (Cell K)) (x : Stage) (o : List (Cell K) × Stage) (y : Standing) → Means x y → standing x ≡ y → is-idle x ≡ false
           → (busy x ≡ true → Ended-stage (o .1)) → Ended-stage (ends-by y (cs, x) o .1)
       by-standing cs x o resting t e i h = absurd (both-ways (is-idle x) i (ap idle-by e))
       by-standing cs x o homing t e i h = inl t

@@ -9,7 +9,7 @@ use lib.Dec.{eqb}
 use Rattle.std.proofs.shelf.Tests.{cases-lt, both-ways, and-parts}
 use Rattle.protocol.specs.Cells.{cell}
 use Rattle.protocol.specs.Stages.{Stage, Standing, resting, homing, under-way, done, standing, busy-by, busy, Held, none-held, one-held, both-held, held-by, some-cell}
-use Rattle.protocol.proofs.Standings.{Told, stage-is}
+use Rattle.protocol.proofs.Standings.{Means, stage-is}
 
 abbrev pub held-at : ℕ → Held → ℕ → Bool
 held-at N none-held q = false
@@ -22,7 +22,7 @@ holder N x q = held-at N (held-by x) q
 pub holder-busy : (N : ℕ) (x : Stage) (p : ℕ) → holder N x p ≡ true → busy x ≡ true
 holder-busy N x p h = go (standing x) (stage-is x)
   where
-    go : (y : Standing) → Told x y → busy-by y ≡ true
+    go : (y : Standing) → Means x y → busy-by y ≡ true
     go resting t = absurd (both-ways (holder N x p) (ap (λ z. holder N z p) t) h)
     go homing t = refl
     go under-way t = refl

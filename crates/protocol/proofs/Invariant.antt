@@ -15,6 +15,7 @@ use Rattle.protocol.proofs.Updates.{updated-same, updated-at, updated-other, n
 use Rattle.protocol.proofs.Sorted.{Sorted}
 use Rattle.protocol.proofs.Holding.{holder}
 
+-- who has marked a place: it is not in memory, and the proof carries it along
 pub data Owner : Type 0 where
   free : Owner
   by : ℕ → Owner
@@ -33,7 +34,7 @@ owners-after s (Mark p) O = updated O p (by s)
 owners-after s (Unmark p) O = updated O p free
 owners-after s (Write p k) O = O
 
--- the positions at which a stage relies on cells and table to stay
+-- the places at which a station of that stage relies on cell and table to stay
 abbrev pub Keeps : Stage → ℕ → Type 0
 Keeps Idle q = ⊥
 Keeps Home q = ⊥
@@ -49,6 +50,7 @@ Keeps (ReleaseLeft l r a) q = ⊥
 Keeps (ReleaseRight r a) q = ⊥
 Keeps (Answered a) q = ⊥
 
+-- the places at which a station that shifts may have made the cells differ from the table
 abbrev pub In-shift : Stage → ℕ → Type 0
 In-shift Idle q = ⊥
 In-shift Home q = ⊥
@@ -79,6 +81,7 @@ abbrev pub Solid : {K : Type 0} → (ℕ → Content K) → (ℕ → Bool) → �
 Solid T M p = (M p ≡ false) × (is-occupied (T p) ≡ true)
 
 module _ {K : Type 0} {N : ℕ} (κ : Lawful K N) where
+  -- the table of the effects, after one more
   abbrev pub table-after : K → Effect → (ℕ → Content K) → ℕ → Content K
   table-after k nothing S = S
   table-after k (took a) S = one-worker (κ .kind) S k .0
@@ -91,20 +94,22 @@ module _ {K : Type 0} {N : ℕ} (κ : Lawful K N) where
         ((x : K) (p : ℕ) → S p ≡ holds x → (q : ℕ) × (one-worker (κ .kind) S k .0 q ≡ holds x))
         × (a ≡ Inserted → (q : ℕ) × (one-worker (κ .kind) S k .0 q ≡ holds k))
 
-  pub answer-told : (k : K) (S : ℕ → Content K) (a : Answer) → one-worker (κ .kind) S k ≡ (S, a) → (a ≡ Inserted → ⊥) → Right-answer k (took a) S
-  answer-told k S a w n = (ap (λ z. z .1) w, λ x p h. (p, ap (λ z. z .0 p) w ∙ h), λ e. absurd (n e))
+  pub answer-same : (k : K) (S : ℕ → Content K) (a : Answer) → one-worker (κ .kind) S k ≡ (S, a) → (a ≡ Inserted → ⊥) → Right-answer k (took a) S
+  answer-same k S a w n = (ap (λ z. z .1) w, λ x p h. (p, ap (λ z. z .0 p) w ∙ h), λ e. absurd (n e))
 
   pub answer-new : (k : K) (S S′ : ℕ → Content K) → one-worker (κ .kind) S k ≡ (S′, Inserted)
       → ((x : K) (p : ℕ) → S p ≡ holds x → (q : ℕ) × (S′ q ≡ holds x)) → (q : ℕ) → S′ q ≡ holds k → Right-answer k (took Inserted) S
   answer-new k S S′ w keep q new =
       (ap (λ z. z .1) w, λ x p h. let y = keep x p h in (y .0, ap (λ z. z .0 (y .0)) w ∙ y .1), λ e. (q, ap (λ z. z .0 q) w ∙ new))
 
+  -- between l and r, with home there, all is solid: no other station writes there
   pub record Region (T : ℕ → Content K) (M : ℕ → Bool) (k : K) (l r : ℕ) : Type 0 where
     pub l-h : l < κ .kind .place k
     pub h-r : κ .kind .place k < r
     pub top : r ≤ suc N
     pub solid : (p : ℕ) → l < p → p < r → Solid T M p
 
+  -- both boundaries are empty and held, so the cells are the table's; what the walk has passed is on its side of k
   pub record Checking (T : ℕ → Content K) (M : ℕ → Bool) (S : ℕ → Content K) (k : K) (l r p : ℕ) : Type 0 where
     pub region : Region T M k l r
     pub el : T l ≡ empty
@@ -115,7 +120,8 @@ module _ {K : Type 0} {N : ℕ} (κ : Lawful K N) where
     pub afters : (q : ℕ) → p < q → q ≤ κ .kind .place k → versus (κ .kind) k (S q) ≡ is after
     pub befores : (q : ℕ) → κ .kind .place k ≤ q → q < p → versus (κ .kind) k (S q) ≡ is before
 
-  -- the gap g came from r
+  -- the gap, at place g, came from r: up to it the cells are the table's, beyond it they are one place further right;
+  -- what was copied is after k, which is not there; and one worker would have started at r too
   pub record Shifting-left (T : ℕ → Content K) (M : ℕ → Bool) (S : ℕ → Content K) (k : K) (l r g : ℕ) : Type 0 where
     pub region : Region T M k l r
     pub cell-r : r ≤ N
@@ -129,7 +135,7 @@ module _ {K : Type 0} {N : ℕ} (κ : Lawful K N) where
     pub afters : (q : ℕ) → g ≤ q → q < r → versus (κ .kind) k (S q) ≡ is after
     pub chosen : starts-right (κ .kind) S k l r ≡ true
 
-  -- the gap g came from l
+  -- the gap, at place g, came from l: the mirror image
   pub record Shifting-right (T : ℕ → Content K) (M : ℕ → Bool) (S : ℕ → Content K) (k : K) (l r g : ℕ) : Type 0 where
     pub region : Region T M k l r
     pub cell-l : 0 < l
@@ -160,12 +166,16 @@ module _ {K : Type 0} {N : ℕ} (κ : Lawful K N) where
   Good T M S k (ReleaseRight r a) = Unit {0}
   Good T M S k (Answered a) = Unit {0}
 
+  -- contents T, marks M, owners O, the stations' keys ky and stages st, and the table S of one worker after the effects so far
   pub record Core (T : ℕ → Content K) (M : ℕ → Bool) (O : ℕ → Owner) (ky : ℕ → K) (st : ℕ → Stage) (S : ℕ → Content K) : Type 0 where
+    -- the edges hold nothing
     pub edge-low : T 0 ≡ empty
     pub edge-high : (p : ℕ) → N < p → T p ≡ empty
+    -- a station owns the places that its stage holds, and a place is marked if it has an owner
     pub owned : (s p : ℕ) → holder N (st s) p ≡ is-by s (O p)
     pub marks : (p : ℕ) → M p ≡ taken (O p)
     pub good : (s : ℕ) → Good T M S (ky s) (st s)
+    -- the cells are the table's, except where a station shifts
     pub agree : (p : ℕ) → (S p ≡ T p) ⊎ ((s : ℕ) × In-shift (st s) p)
     pub sorted : Sorted κ S
 

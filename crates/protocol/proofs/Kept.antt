@@ -17,7 +17,7 @@ use Rattle.protocol.specs.Calls.{Ok, Err, Refusal, WrongSize, OtherRegister, N
 use Rattle.protocol.specs.Turns.{Turn, begin, step, collect, withdraw, Reply, Log, latest, watched, log-at, logged-over}
 use Rattle.protocol.proofs.Lawful.{Lawful}
 use Rattle.protocol.proofs.Updates.{updated-same, updated-at, updated-other, updated-all}
-use Rattle.protocol.proofs.Standings.{Told, stage-is, idle-is, settled-same, busy-not-idle, finish-is}
+use Rattle.protocol.proofs.Standings.{Means, stage-is, idle-is, settled-same, busy-not-idle, finish-is}
 use Rattle.protocol.proofs.Holding.{holder-cell}
 use Rattle.protocol.proofs.State.{State, with-station, step-by, step-with, stepped}
 use Rattle.protocol.proofs.Invariant.{Owner, free, by, taken, is-by, is-by-self}
@@ -47,22 +47,22 @@ by-station P w s f x y =
     go (holds u) e b = y b u e
 
 module _ {K : Type 0} (filler : K) where
-  abbrev pub spare : Station K
-  spare = record { key = filler; stage = Idle; withdrawn = false }
+  abbrev pub idle-record : Station K
+  idle-record = record { key = filler; stage = Idle; withdrawn = false }
 
   -- the record of a station; one that no call reaches is as good as idle
-  abbrev pub seat : Bool → Content (Station K) → Station K
-  seat true o = spare
-  seat false empty = spare
-  seat false (holds t) = t
+  abbrev pub record-of : Bool → Content (Station K) → Station K
+  record-of true o = idle-record
+  record-of false empty = idle-record
+  record-of false (holds t) = t
 
-  abbrev pub seats : List (Station K) → ℕ → Station K
-  seats ts s = seat (bad-count (length ts)) (nth ts s)
+  abbrev pub records-of : List (Station K) → ℕ → Station K
+  records-of ts s = record-of (bad-count (length ts)) (nth ts s)
 
   abbrev pub state : World K → Log K → State K
   state w g =
       record {
-        contents = contents (w .cells); marked = marks (w .cells); station = seats (w .stations); effects = g .effects; unfinished = g .unfinished;
+        contents = contents (w .cells); marked = marks (w .cells); station = records-of (w .stations); effects = g .effects; unfinished = g .unfinished;
         held = g .held;
       }
 
@@ -91,11 +91,12 @@ module _ {K : Type 0} {N : ℕ} (κ : Lawful K N) where
   stepped-is v s u e = ap (step-with (κ .kind) v s) e
 
   module _ (filler : K) where
+    -- the invariant of a register's memory with the log of its run
     pub record Kept (w : World K) (g : Log K) : Type 0 where
       pub inv : Inv κ (state filler w g)
       pub size : length (w .cells) ≡ N
-      pub answers : (s : ℕ) → is-idle (seats filler (w .stations) s .stage) ≡ false → g .answer s ≡ given (seats filler (w .stations) s .stage)
-      pub named : (s : ℕ) → names-cells N (seats filler (w .stations) s .stage) ≡ true
+      pub answers : (s : ℕ) → is-idle (records-of filler (w .stations) s .stage) ≡ false → g .answer s ≡ given (records-of filler (w .stations) s .stage)
+      pub named : (s : ℕ) → names-cells N (records-of filler (w .stations) s .stage) ≡ true
 
     -- the turn t, with outcome o, keeps the invariant
     unfoldable pub Goal : World K → Log K → (t : Turn K) → Out K (Reply t) → Type 0
@@ -104,68 +105,68 @@ module _ {K : Type 0} {N : ℕ} (κ : Lawful K N) where
     module _ (w : World K) (g : Log K) (f : Kept w g) where
       module _ (s : ℕ) where
         module _ (b : bad-count (length (w .stations)) ≡ false) (u : Station K) (e : nth (w .stations) s ≡ holds u) where
-          seat-is : seats filler (w .stations) s ≡ u
-          seat-is = ap (λ x. seat filler x (nth (w .stations) s)) b ∙ ap (seat filler false) e
+          record-is : records-of filler (w .stations) s ≡ u
+          record-is = ap (λ x. record-of filler x (nth (w .stations) s)) b ∙ ap (record-of filler false) e
 
-          seats-set : (t : Station K) (r : ℕ) → seats filler (set (w .stations) s t) r ≡ updated (seats filler (w .stations)) s t r
-          seats-set t r =
-              ap (λ n. seat filler (bad-count n) (nth (set (w .stations) s t) r)) (length-set (w .stations) s t)
+          records-set : (t : Station K) (r : ℕ) → records-of filler (set (w .stations) s t) r ≡ updated (records-of filler (w .stations)) s t r
+          records-set t r =
+              ap (λ n. record-of filler (bad-count n) (nth (set (w .stations) s t) r)) (length-set (w .stations) s t)
               ∙ ⊎-elim
                 (λ (z : s ≡ r).
-                   ap (λ x. seat filler x (nth (set (w .stations) s t) r)) b
-                   ∙ ap (λ j. seat filler false (nth (set (w .stations) s t) j)) (sym z)
-                   ∙ ap (seat filler false) (nth-same (w .stations) s t u e)
-                   ∙ sym (updated-at (seats filler (w .stations)) s r t z))
+                   ap (λ x. record-of filler x (nth (set (w .stations) s t) r)) b
+                   ∙ ap (λ j. record-of filler false (nth (set (w .stations) s t) j)) (sym z)
+                   ∙ ap (record-of filler false) (nth-same (w .stations) s t u e)
+                   ∙ sym (updated-at (records-of filler (w .stations)) s r t z))
                 (λ n.
-                   ap (seat filler (bad-count (length (w .stations)))) (nth-other (w .stations) s t r n)
-                   ∙ sym (updated-other (seats filler (w .stations)) s r t n))
+                   ap (record-of filler (bad-count (length (w .stations)))) (nth-other (w .stations) s t r n)
+                   ∙ sym (updated-other (records-of filler (w .stations)) s r t n))
                 (cases-eq s r)
 
           -- what holds of the new record and of the others holds of all
-          seated-all : (P : ℕ → Station K → Type 0) (t : Station K) → P s t → ((r : ℕ) → s ≢ r → P r (seats filler (w .stations) r)) → (r : ℕ)
-              → P r (seats filler (set (w .stations) s t) r)
-          seated-all P t here there r = subst (P r) (sym (seats-set t r)) (updated-all P (seats filler (w .stations)) s t here there r)
+          records-all : (P : ℕ → Station K → Type 0) (t : Station K) → P s t → ((r : ℕ) → s ≢ r → P r (records-of filler (w .stations) r)) → (r : ℕ)
+              → P r (records-of filler (set (w .stations) s t) r)
+          records-all P t here there r = subst (P r) (sym (records-set t r)) (updated-all P (records-of filler (w .stations)) s t here there r)
 
           -- a turn that writes the record of s alone
-          seated-kept : (t : Station K) (x : Bool) (un : ℕ → Bool) (an : ℕ → Effect) → Inv κ (with-station (state filler w g) s t x)
+          recorded-kept : (t : Station K) (x : Bool) (un : ℕ → Bool) (an : ℕ → Effect) → Inv κ (with-station (state filler w g) s t x)
               → ((r : ℕ) → un r ≡ updated (g .unfinished) s x r)
               → (is-idle (t .stage) ≡ false → an s ≡ given (t .stage)) → ((r : ℕ) → s ≢ r → an r ≡ g .answer r) → names-cells N (t .stage) ≡ true
               → Kept (put-record w s t) (record { effects = g .effects; unfinished = un; held = g .held; answer = an })
-          seated-kept t x un an i eu here there nm = record {
+          recorded-kept t x un an i eu here there nm = record {
             inv =
               inv-ext (with-station (state filler w g) s t x)
                 (state filler (put-record w s t) (record { effects = g .effects; unfinished = un; held = g .held; answer = an }))
-                (λ p. refl) (λ p. refl) (seats-set t) refl eu (λ r p. refl) i;
+                (λ p. refl) (λ p. refl) (records-set t) refl eu (λ r p. refl) i;
             size = f .size;
-            answers = seated-all (λ r y. is-idle (y .stage) ≡ false → an r ≡ given (y .stage)) t here (λ r n i. there r n ∙ f .answers r i);
-            named = seated-all (λ r y. names-cells N (y .stage) ≡ true) t nm (λ r n. f .named r);
+            answers = records-all (λ r y. is-idle (y .stage) ≡ false → an r ≡ given (y .stage)) t here (λ r n i. there r n ∙ f .answers r i);
+            named = records-all (λ r y. names-cells N (y .stage) ≡ true) t nm (λ r n. f .named r);
           }
 
           begin-kept : (k : K) → not (is-idle (u .stage)) ≡ false → Goal w g (begin s k) (put-record w s (fresh k), Ok (w .number, s))
           unfolding Goal
-          begin-kept k h = seated-kept (fresh k) true (updated (g .unfinished) s true) (updated (g .answer) s nothing)
-              (begin-inv κ (state filler w g) (f .inv) s k (ap (λ x. x .stage) seat-is ∙ idle-is (u .stage) h))
+          begin-kept k h = recorded-kept (fresh k) true (updated (g .unfinished) s true) (updated (g .answer) s nothing)
+              (begin-inv κ (state filler w g) (f .inv) s k (ap (λ x. x .stage) record-is ∙ idle-is (u .stage) h))
                 (λ r. refl) (λ _. updated-same (g .answer) s nothing) (λ r n. updated-other (g .answer) s r nothing n)
                 refl
 
           open-unfinished : g .unfinished s ≡ busy (u .stage)
-          open-unfinished = f .inv .busy-is s ∙ ap (λ x. busy (x .stage)) seat-is
+          open-unfinished = f .inv .busy-is s ∙ ap (λ x. busy (x .stage)) record-is
 
           answer-is : is-idle (u .stage) ≡ false → g .answer s ≡ given (u .stage)
-          answer-is i = f .answers s (ap (λ x. is-idle (x .stage)) seat-is ∙ i) ∙ ap (λ x. given (x .stage)) seat-is
+          answer-is i = f .answers s (ap (λ x. is-idle (x .stage)) record-is ∙ i) ∙ ap (λ x. given (x .stage)) record-is
 
           named-is : names-cells N (u .stage) ≡ true
-          named-is = ap (λ x. names-cells N (x .stage)) (sym seat-is) ∙ f .named s
+          named-is = ap (λ x. names-cells N (x .stage)) (sym record-is) ∙ f .named s
 
-          collect-kept : (n : ℕ) (y : Standing) → Told (u .stage) y → Goal w g (collect n s) (collecting-at w s u y)
+          collect-kept : (n : ℕ) (y : Standing) → Means (u .stage) y → Goal w g (collect n s) (collecting-at w s u y)
           unfolding Goal
           collect-kept n resting z = f
           collect-kept n homing z = f
           collect-kept n under-way z = f
-          collect-kept n (done a) z = seated-kept (idled u) false (g .unfinished) (g .answer)
+          collect-kept n (done a) z = recorded-kept (idled u) false (g .unfinished) (g .answer)
               (subst
-                 (λ y. Inv κ (with-station (state filler w g) s (idled y) false)) seat-is
-                 (rest-inv κ (state filler w g) (f .inv) s (Answered a) (ap (λ y. y .stage) seat-is ∙ z) refl))
+                 (λ y. Inv κ (with-station (state filler w g) s (idled y) false)) record-is
+                 (rest-inv κ (state filler w g) (f .inv) s (Answered a) (ap (λ y. y .stage) record-is ∙ z) refl))
               (λ r.
                  ⊎-elim
                    (λ (q : s ≡ r). ap (g .unfinished) (sym q) ∙ open-unfinished ∙ ap busy z ∙ sym (updated-at (g .unfinished) s r false q))
@@ -174,15 +175,15 @@ module _ {K : Type 0} {N : ℕ} (κ : Lawful K N) where
 
           withdraw-kept : (n : ℕ) (x : Bool) → holds-mark N (u .stage) ≡ x → Goal w g (withdraw n s) (withdrawing-at w s u x)
           unfolding Goal
-          withdraw-kept n true z = seated-kept (leaving u) (g .unfinished s) (updated (g .unfinished) s (g .unfinished s)) (g .answer)
+          withdraw-kept n true z = recorded-kept (leaving u) (g .unfinished s) (updated (g .unfinished) s (g .unfinished s)) (g .answer)
               (subst
                  (λ y. Inv κ (with-station (state filler w g) s (leaving y) (g .unfinished s)))
-                 seat-is (leaving-inv κ (state filler w g) (f .inv) s))
+                 record-is (leaving-inv κ (state filler w g) (f .inv) s))
                 (λ r. refl) answer-is (λ r m. refl) named-is
-          withdraw-kept n false z = seated-kept (idled u) false (updated (g .unfinished) s false) (g .answer)
+          withdraw-kept n false z = recorded-kept (idled u) false (updated (g .unfinished) s false) (g .answer)
               (subst
-                 (λ y. Inv κ (with-station (state filler w g) s (idled y) false)) seat-is
-                 (rest-inv κ (state filler w g) (f .inv) s (u .stage) (ap (λ y. y .stage) seat-is) z))
+                 (λ y. Inv κ (with-station (state filler w g) s (idled y) false)) record-is
+                 (rest-inv κ (state filler w g) (f .inv) s (u .stage) (ap (λ y. y .stage) record-is) z))
                 (λ r. refl) (λ i. absurd (both-ways true i refl)) (λ r m. refl) refl
 
           step-kept : busy (u .stage) ≡ true → Goal w g (step s) (stepping-by w s u (decision (κ .kind) (w .cells) (u .key) (u .stage)))
@@ -200,7 +201,7 @@ module _ {K : Type 0} {N : ℕ} (κ : Lawful K N) where
               v : World K
               v = o .0
               after-it : Inv κ (step-by (state filler w g) s u m x)
-              after-it = subst (Inv κ) (stepped-is (state filler w g) s u seat-is) (step-inv κ (state filler w g) (f .inv) s)
+              after-it = subst (Inv κ) (stepped-is (state filler w g) s u record-is) (step-inv κ (state filler w g) (f .inv) s)
               act-is : Acted (m .act) (w .cells)
               act-is =
                   acted (m .act) (w .cells) N (f .size) (after-it .core .edge-low) (after-it .core .edge-high)
@@ -208,13 +209,13 @@ module _ {K : Type 0} {N : ℕ} (κ : Lawful K N) where
               kept : Kept v (log-at (κ .kind) w s (holds u) o g)
               kept = record {
                 inv =
-                  inv-ext (step-by (state filler w g) s u m x) (state filler v (log-at (κ .kind) w s (holds u) o g)) (act-is .0) (act-is .1) (seats-set t) refl
+                  inv-ext (step-by (state filler w g) s u m x) (state filler v (log-at (κ .kind) w s (holds u) o g)) (act-is .0) (act-is .1) (records-set t) refl
                     (λ q. ap (λ y. updated (g .unfinished) s y q) (finish-is x (g .unfinished s) (open-unfinished ∙ h)))
                     (λ q p. ap (λ y. cond (eqb s q) (watched (marks (w .cells) p) y (g .held s p)) (g .held q p)) (act-is .1 p))
                     after-it;
                 size = length-after (m .act) (w .cells) ∙ f .size;
                 answers =
-                  seated-all (λ r y. is-idle (y .stage) ≡ false → updated (g .answer) s (latest (m .effect) (g .answer s)) r ≡ given (y .stage)) t
+                  records-all (λ r y. is-idle (y .stage) ≡ false → updated (g .answer) s (latest (m .effect) (g .answer s)) r ≡ given (y .stage)) t
                     (λ i.
                        updated-same (g .answer) s (latest (m .effect) (g .answer s))
                        ∙ ap (latest (m .effect)) (answer-is (busy-not-idle (u .stage) h))
@@ -222,7 +223,7 @@ module _ {K : Type 0} {N : ℕ} (κ : Lawful K N) where
                        ∙ ap given (sym (settled-same (u .withdrawn) (m .next) i)))
                     (λ r n i. updated-other (g .answer) s r (latest (m .effect) (g .answer s)) n ∙ f .answers r i);
                 named =
-                  seated-all (λ r y. names-cells N (y .stage) ≡ true) t
+                  records-all (λ r y. names-cells N (y .stage) ≡ true) t
                     (named-settled N (u .withdrawn) (m .next)
                        (named-kept κ (u .key) (contents (w .cells)) (marks (w .cells)) (contents-inside (w .cells) N (f .size)) (u .stage) named-is))
                     (λ r n. f .named r);
@@ -271,9 +272,9 @@ module _ {K : Type 0} {N : ℕ} (κ : Lawful K N) where
                     withdraw-kept b u e n (holds-mark N (u .stage)) refl))))
 
         -- no record names a cell that is none
-        pub never-stray : stepping (κ .kind) w s .1 ≡ Err NoCell → ⊥
+        pub never-no-cell : stepping (κ .kind) w s .1 ≡ Err NoCell → ⊥
         unfolding stepping refused-if
-        never-stray =
+        never-no-cell =
             by-check Other (bad-size N) WrongSize w _ (by-number WrongSize (omega arith)) (λ _.
               by-station Other w s _ (by-number NoStation (omega arith)) (λ b u e.
                 by-check Other (not (busy (u .stage))) NoEntry w _ (by-number NoEntry (omega arith)) (λ _.

@@ -7,7 +7,7 @@ use Rattle.std.specs.Orderings.{reversed}
 use Rattle.keys.specs.Laws.{Laws}
 use Rattle.protocol.specs.Cells.{Content, empty, holds, is-occupied}
 use Rattle.protocol.specs.Step.{Ordering, before, same, after, Kind, kind-over, none, is, versus}
-use Rattle.protocol.proofs.Updates.{holds-occ}
+use Rattle.protocol.proofs.Updates.{holds-occupied}
 
 pub record Lawful (K : Type 0) (N : ℕ) : Type 0 where
   pub kind : Kind K N
@@ -67,5 +67,5 @@ module _ {K : Type 0} {N : ℕ} (κ : Lawful K N) where
   pub versus-same : (k : K) (x : Content K) → versus (κ .kind) k x ≡ is same → x ≡ holds k
   versus-same k x e = let h = versus-is k x same e in h .1 ∙ ap holds (κ .order-same (h .0) k (h .2))
 
-  pub versus-occ : (k : K) (x : Content K) (o : Ordering) → versus (κ .kind) k x ≡ is o → is-occupied x ≡ true
-  versus-occ k x o e = holds-occ (versus-is k x o e .1)
+  pub versus-occupied : (k : K) (x : Content K) (o : Ordering) → versus (κ .kind) k x ≡ is o → is-occupied x ≡ true
+  versus-occupied k x o e = holds-occupied (versus-is k x o e .1)

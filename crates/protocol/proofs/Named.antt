@@ -8,8 +8,8 @@ use Rattle.std.proofs.shelf.Tests.{lt-ltb, ltb-true, and-parts, and-from}
 use Rattle.protocol.specs.Cells.{Content, empty, holds, cell, is-occupied}
 use Rattle.protocol.specs.Stages.{Direction, Leftward, Rightward, Stage, Idle, Home, Look, Left, Right, FirstMark, SecondMark, GiveBack, Check, Shift, ReleaseLeft, ReleaseRight, Answered, Standing, resting, homing, under-way, done, standing, settled-by, settled, is-place, names-cells}
 use Rattle.protocol.specs.Step.{before, same, after, Walk, Here, Ended, Onward, Versus, none, is, is-after, walk-at, beside, copy-due, gap-after, at-home, at-look, at-left, at-right, at-first, give-up, at-second, absent, at-check, copied, release, versus, at-shift, decide}
-use Rattle.protocol.proofs.Lawful.{Lawful, versus-occ}
-use Rattle.protocol.proofs.Updates.{holds-occ}
+use Rattle.protocol.proofs.Lawful.{Lawful, versus-occupied}
+use Rattle.protocol.proofs.Updates.{holds-occupied}
 use Rattle.protocol.proofs.Sorted.{inside}
 use Rattle.protocol.proofs.Holding.{cell-parts}
 
@@ -77,7 +77,7 @@ module _ {K : Type 0} {N : ℕ} (κ : Lawful K N) (k : K) (T : ℕ → Content K
   walk-named p lt (is before) e q w = by-test (leb (κ .kind .place k) p) w
     where
       by-test : (b : Bool) → cond b (Onward (suc p)) Ended ≡ Onward q → q < N + 2
-      by-test true w = let z : suc p ≡ q = cc in let i = inside p (versus-occ κ k (T p) before e) in omega arith
+      by-test true w = let z : suc p ≡ q = cc in let i = inside p (versus-occupied κ k (T p) before e) in omega arith
       by-test false w = let z : _≡_ {A = ℕ} 0 1 = cc in absurd (omega arith)
 
   look-named : (w : Walk) → ((q : ℕ) → w ≡ Onward q → q < N + 2) → Named (at-look {K = K} (κ .kind .place k) w .next)
@@ -144,7 +144,7 @@ module _ {K : Type 0} {N : ℕ} (κ : Lawful K N) (k : K) (T : ℕ → Content K
   shift-named d l r g x y z (holds i) e = by-due (copy-due d (κ .kind .order i k))
     where
       by-due : (b : Bool) → Named (copied k d l r g i b .next)
-      by-due true = gapped N l r (gap-after d g) x y (gap-named d g z (holds-occ e))
+      by-due true = gapped N l r (gap-after d g) x y (gap-named d g z (holds-occupied e))
       by-due false = two N l r x y
 
   release-named : (p : ℕ) (c : Bool) (y : Stage) → Named y → Named (release {K = K} p c y .next)

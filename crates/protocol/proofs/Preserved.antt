@@ -1,4 +1,4 @@
--- The invariant of a register with its log, kept by each turn; and the theorem.
+-- The invariant of a register with its log, kept by every change of a station.
 use mathlib.Core.Path.{_≡_, refl, sym, ap, _∙_, subst, fun-ext}
 use mathlib.Core.Logic.{⊎-elim, _≢_}
 use mathlib.Core.Bool.{Bool, true, false, cond}
@@ -19,7 +19,7 @@ use Rattle.protocol.proofs.Lawful.{Lawful}
 use Rattle.protocol.proofs.Updates.{updated-same, updated-at, updated-other}
 use Rattle.protocol.proofs.Sorted.{Sorted, inside}
 use Rattle.protocol.proofs.Worker.{worker-found}
-use Rattle.protocol.proofs.Standings.{Told, stage-is}
+use Rattle.protocol.proofs.Standings.{Means, stage-is}
 use Rattle.protocol.proofs.Holding.{holder, no-holder}
 use Rattle.protocol.proofs.State.{State, contents-after, marks-after, with-station, stepped}
 use Rattle.protocol.proofs.Invariant.{Owner, free, by, taken, is-by, owners-after, In-shift, is-by-self, table-after, Right-answer, Good, Core, still}
@@ -87,7 +87,7 @@ module _ {K : Type 0} {N : ℕ} (κ : Lawful K N) where
     settle-core false x e = same-stage x e
     settle-core true x e = go (standing x) (stage-is x)
       where
-        go : (y : Standing) → Told x y → Core κ T M O ky (updated st s (settled-by true y x)) S
+        go : (y : Standing) → Means x y → Core κ T M O ky (updated st s (settled-by true y x)) S
         go resting t = same-stage Idle (e ∙ t)
         go homing t = still κ c s Home Idle (e ∙ t) (λ p. refl) (λ p i. i) tt
         go under-way t = same-stage x e
@@ -97,11 +97,11 @@ module _ {K : Type 0} {N : ℕ} (κ : Lawful K N) where
     no-shift : (x : Stage) → st s ≡ x → holds-mark N x ≡ false → (p : ℕ) → In-shift x p → ⊥
     no-shift x e h p i =
         let a = around κ c s p (subst (λ y. In-shift y p) (sym e) i) in
-        let lh = a .fenced .region .l-h in let hr = a .fenced .region .h-r in let hN = κ .place-high (ky s) in
+        let lh = a .closed-region .region .l-h in let hr = a .closed-region .region .h-r in let hN = κ .place-high (ky s) in
         let none : (q : ℕ) → O q ≡ by s → ⊥ = λ q o. both-ways false refl
           (no-holder N (held-by x) h q ∙ ap (λ y. holder N y q) (sym e) ∙ c .owned s q ∙ ap (is-by s) o ∙ is-by-self s)
           in
-        ⊎-elim (λ z. none (a .l) (a .fenced .own-l z)) (λ z. none (a .r) (a .fenced .own-r z)) (a .some-cell)
+        ⊎-elim (λ z. none (a .l) (a .closed-region .own-l z)) (λ z. none (a .r) (a .closed-region .own-r z)) (a .some-cell)
 
     leave-core : (x : Stage) → st s ≡ x → holds-mark N x ≡ false → Core κ T M O ky (updated st s Idle) S
     leave-core x e h = still κ c s x Idle e (λ p. no-holder N (held-by x) h p) (λ p i. no-shift x e h p i) tt
@@ -122,6 +122,7 @@ module _ {K : Type 0} {N : ℕ} (κ : Lawful K N) where
       → ky ≡ ky′ → st ≡ st′ → S ≡ S′ → Core κ T M O ky st S → Core κ T M O ky′ st′ S′
   core-ext {T} {M} {O} a b d c = subst (λ (z : (ℕ → K) × (ℕ → Stage) × (ℕ → Content K)). Core κ T M O (z .0) (z .1) (z .2)) (λ i. (a i, b i, d i)) c
 
+  -- the invariant with the log: what is logged as held and unfinished is so, the answers are one worker's, and every new key is in the table
   pub record Inv (w : State K) : Type 0 where
     pub owner : ℕ → Owner
     pub core : Core κ (w .contents) (w .marked) owner (λ s. w .station s .key) (λ s. w .station s .stage) (table (κ .kind) (w .effects))

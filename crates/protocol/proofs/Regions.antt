@@ -35,13 +35,13 @@ module _ {K : Type 0} {N : ℕ} (κ : Lawful K N) {T : ℕ → Content K} {M : �
   good-at t x e = subst (λ y. Good κ T M S (ky t) y) e (c .good t)
 
   -- the region of t and its marks
-  pub record Fence (t l r : ℕ) : Type 0 where
+  pub record Closed (t l r : ℕ) : Type 0 where
     pub region : Region κ T M (ky t) l r
     pub own-l : 0 < l → O l ≡ by t
     pub own-r : r ≤ N → O r ≡ by t
 
-  fence : (t l r : ℕ) (x : Stage) → st t ≡ x → ((p : ℕ) → holder N x p ≡ ((eqb p l || eqb p r) && cell N p)) → Region κ T M (ky t) l r → Fence t l r
-  fence t l r x e ho g =
+  closed : (t l r : ℕ) (x : Stage) → st t ≡ x → ((p : ℕ) → holder N x p ≡ ((eqb p l || eqb p r) && cell N p)) → Region κ T M (ky t) l r → Closed t l r
+  closed t l r x e ho g =
       let a = g .l-h in let b = g .h-r in let h = κ .place-high (ky t) in let h′ = κ .place-low (ky t) in
       record {
         region = g;
@@ -49,20 +49,20 @@ module _ {K : Type 0} {N : ℕ} (κ : Lawful K N) {T : ℕ → Content K} {M : �
         own-r = λ z. own κ c t x e r (ho r ∙ hold-r N l r (omega arith) z);
       }
 
-  pub fence-check : (t l r p : ℕ) → st t ≡ Check l r p → Fence t l r
-  fence-check t l r p e = fence t l r (Check l r p) e (λ q. refl) (good-at t (Check l r p) e .region)
+  pub closed-check : (t l r p : ℕ) → st t ≡ Check l r p → Closed t l r
+  closed-check t l r p e = closed t l r (Check l r p) e (λ q. refl) (good-at t (Check l r p) e .region)
 
-  pub fence-left : (t l r g : ℕ) → st t ≡ Shift Leftward l r g → Fence t l r
-  fence-left t l r g e = fence t l r (Shift Leftward l r g) e (λ q. refl) (good-at t (Shift Leftward l r g) e .region)
+  pub closed-left : (t l r g : ℕ) → st t ≡ Shift Leftward l r g → Closed t l r
+  closed-left t l r g e = closed t l r (Shift Leftward l r g) e (λ q. refl) (good-at t (Shift Leftward l r g) e .region)
 
-  pub fence-right : (t l r g : ℕ) → st t ≡ Shift Rightward l r g → Fence t l r
-  fence-right t l r g e = fence t l r (Shift Rightward l r g) e (λ q. refl) (good-at t (Shift Rightward l r g) e .region)
+  pub closed-right : (t l r g : ℕ) → st t ≡ Shift Rightward l r g → Closed t l r
+  closed-right t l r g e = closed t l r (Shift Rightward l r g) e (λ q. refl) (good-at t (Shift Rightward l r g) e .region)
 
   -- a region around p, with a cell for a boundary
   pub record Around (t p : ℕ) : Type 0 where
     pub l : ℕ
     pub r : ℕ
-    pub fenced : Fence t l r
+    pub closed-region : Closed t l r
     pub some-cell : (0 < l) ⊎ (r ≤ N)
     pub l-p : l ≤ p
     pub p-r : p ≤ r
@@ -81,20 +81,20 @@ module _ {K : Type 0} {N : ℕ} (κ : Lawful K N) {T : ℕ → Content K} {M : �
       go (GiveBack g) e h = absurd h
       go (Check l r q) e h = absurd h
       go (Shift Leftward l r g) e h =
-          record { l = l; r = r; fenced = fence-left t l r g e; some-cell = inr (good-at t (Shift Leftward l r g) e .cell-r); l-p = h .0; p-r = h .1 }
+          record { l = l; r = r; closed-region = closed-left t l r g e; some-cell = inr (good-at t (Shift Leftward l r g) e .cell-r); l-p = h .0; p-r = h .1 }
       go (Shift Rightward l r g) e h =
           record {
-            l = l; r = r; fenced = fence-right t l r g e; some-cell = inl (good-at t (Shift Rightward l r g) e .cell-l); l-p = h .0; p-r = h .1;
+            l = l; r = r; closed-region = closed-right t l r g e; some-cell = inl (good-at t (Shift Rightward l r g) e .cell-l); l-p = h .0; p-r = h .1;
           }
       go (ReleaseLeft l r a) e h = absurd h
       go (ReleaseRight r a) e h = absurd h
       go (Answered a) e h = absurd h
 
   -- what t relies on is marked by it, or in its region
-  pub relied : (t p : ℕ) → Keeps (st t) p → (0 < p → p ≤ N → O p ≡ by t) ⊎ ((l : ℕ) × (r : ℕ) × Fence t l r × (l ≤ p) × (p ≤ r))
+  pub relied : (t p : ℕ) → Keeps (st t) p → (0 < p → p ≤ N → O p ≡ by t) ⊎ ((l : ℕ) × (r : ℕ) × Closed t l r × (l ≤ p) × (p ≤ r))
   relied t p h = go (st t) refl h
     where
-      go : (x : Stage) → st t ≡ x → Keeps x p → (0 < p → p ≤ N → O p ≡ by t) ⊎ ((l : ℕ) × (r : ℕ) × Fence t l r × (l ≤ p) × (p ≤ r))
+      go : (x : Stage) → st t ≡ x → Keeps x p → (0 < p → p ≤ N → O p ≡ by t) ⊎ ((l : ℕ) × (r : ℕ) × Closed t l r × (l ≤ p) × (p ≤ r))
       go Idle e h = absurd h
       go Home e h = absurd h
       go (Look q) e h = absurd h
@@ -103,15 +103,15 @@ module _ {K : Type 0} {N : ℕ} (κ : Lawful K N) {T : ℕ → Content K} {M : �
       go (FirstMark l r) e h = absurd h
       go (SecondMark l r) e h = inl (λ a b. own κ c t (SecondMark l r) e p (hold-one N l p h a b))
       go (GiveBack g) e h = absurd h
-      go (Check l r q) e h = inr (l, r, fence-check t l r q e, h .0, h .1)
-      go (Shift Leftward l r g) e h = inr (l, r, fence-left t l r g e, h .0, h .1)
-      go (Shift Rightward l r g) e h = inr (l, r, fence-right t l r g e, h .0, h .1)
+      go (Check l r q) e h = inr (l, r, closed-check t l r q e, h .0, h .1)
+      go (Shift Leftward l r g) e h = inr (l, r, closed-left t l r g e, h .0, h .1)
+      go (Shift Rightward l r g) e h = inr (l, r, closed-right t l r g e, h .0, h .1)
       go (ReleaseLeft l r a) e h = absurd h
       go (ReleaseRight r a) e h = absurd h
       go (Answered a) e h = absurd h
 
   -- the mark of another is not in the region
-  pub outside : (s t l r p : ℕ) → s ≢ t → Fence t l r → O p ≡ by s → 0 < p → p ≤ N → l ≤ p → p ≤ r → ⊥
+  pub outside : (s t l r p : ℕ) → s ≢ t → Closed t l r → O p ≡ by s → 0 < p → p ≤ N → l ≤ p → p ≤ r → ⊥
   outside s t l r p n f o a b lp pr =
       ⊎-elim (λ (e : l ≡ p). n (by-inj o (ap O (sym e) ∙ f .own-l (omega arith))))
         (λ x. ⊎-elim (λ (e : r ≡ p). n (by-inj o (ap O (sym e) ∙ f .own-r (omega arith))))
@@ -120,7 +120,7 @@ module _ {K : Type 0} {N : ℕ} (κ : Lawful K N) {T : ℕ → Content K} {M : �
         (cases-eq l p)
 
   -- nor is an empty cell without a mark
-  pub clear : (t l r p : ℕ) → Fence t l r → T p ≡ empty → M p ≡ false → 0 < p → p ≤ N → l ≤ p → p ≤ r → ⊥
+  pub clear : (t l r p : ℕ) → Closed t l r → T p ≡ empty → M p ≡ false → 0 < p → p ≤ N → l ≤ p → p ≤ r → ⊥
   clear t l r p f em um a b lp pr =
       ⊎-elim (λ (e : l ≡ p). both-ways (M p) um (marked-by κ c p t (ap O (sym e) ∙ f .own-l (omega arith))))
         (λ x. ⊎-elim (λ (e : r ≡ p). both-ways (M p) um (marked-by κ c p t (ap O (sym e) ∙ f .own-r (omega arith))))
@@ -129,26 +129,26 @@ module _ {K : Type 0} {N : ℕ} (κ : Lawful K N) {T : ℕ → Content K} {M : �
         (cases-eq l p)
 
   -- a boundary of s is an edge, or off the region of t
-  off-l : (s t l r l′ r′ : ℕ) → s ≢ t → Fence s l r → Fence t l′ r′ → (l ≡ 0) ⊎ ((l < l′) ⊎ (r′ < l))
+  off-l : (s t l r l′ r′ : ℕ) → s ≢ t → Closed s l r → Closed t l′ r′ → (l ≡ 0) ⊎ ((l < l′) ⊎ (r′ < l))
   off-l s t l r l′ r′ n f g =
       let a = f .region .l-h in let b = κ .place-high (ky s) in
       ⊎-elim
         (λ (z : 0 < l). inr (off-interval l l′ r′ (outside s t l′ r′ l n g (f .own-l z) z (omega arith))))
         (λ z. inl (omega arith)) (cases-lt 0 l)
 
-  off-r : (s t l r l′ r′ : ℕ) → s ≢ t → Fence s l r → Fence t l′ r′ → (N < r) ⊎ ((r < l′) ⊎ (r′ < r))
+  off-r : (s t l r l′ r′ : ℕ) → s ≢ t → Closed s l r → Closed t l′ r′ → (N < r) ⊎ ((r < l′) ⊎ (r′ < r))
   off-r s t l r l′ r′ n f g =
       let a = f .region .h-r in
       ⊎-elim inl (λ z. inr (off-interval r l′ r′ (outside s t l′ r′ r n g (f .own-r z) (omega arith) z))) (cases-lt N r)
 
-  pub apart : (s t l r l′ r′ p : ℕ) → s ≢ t → Fence s l r → Fence t l′ r′ → (0 < l′) ⊎ (r′ ≤ N) → l ≤ p → p ≤ r → l′ ≤ p → p ≤ r′ → ⊥
+  pub apart : (s t l r l′ r′ p : ℕ) → s ≢ t → Closed s l r → Closed t l′ r′ → (0 < l′) ⊎ (r′ ≤ N) → l ≤ p → p ≤ r → l′ ≤ p → p ≤ r′ → ⊥
   apart s t l r l′ r′ p n f g d a b a′ b′ =
       apart-by N p l r l′ r′ (off-l s t l r l′ r′ n f g) (off-r s t l r l′ r′ n f g)
         (off-l t s l′ r′ l r (λ e. n (sym e)) g f) (off-r t s l′ r′ l r (λ e. n (sym e)) g f)
         d (f .region .top) (g .region .top) a b a′ b′
 
   -- what another relies on is off the region of a station that shifts
-  pub keeps-off : (s t l r p : ℕ) → s ≢ t → Fence s l r → (0 < l) ⊎ (r ≤ N) → Keeps (st t) p → l ≤ p → p ≤ r → ((0 < p) → p ≤ N → ⊥) ⊎ ⊥
+  pub keeps-off : (s t l r p : ℕ) → s ≢ t → Closed s l r → (0 < l) ⊎ (r ≤ N) → Keeps (st t) p → l ≤ p → p ≤ r → ((0 < p) → p ≤ N → ⊥) ⊎ ⊥
   keeps-off s t l r p n f d k a b =
       ⊎-elim (λ o. inl (λ z y. outside t s l r p (λ e. n (sym e)) f (o z y) z y a b))
         (λ g. inr (apart t s (g .0) (g .1) l r p (λ e. n (sym e)) (g .2) f d (g .3) (g .4) a b))

@@ -9,13 +9,13 @@ use Rattle.protocol.specs.Cells.{Content, empty, holds, Write, is-occupied, up
 use Rattle.protocol.specs.Stages.{Inserted, Leftward, Rightward, Stage, Shift, ReleaseLeft}
 use Rattle.protocol.specs.Step.{Ordering, before, same, after, nothing, took, is, copy-due, decided, copied, versus, at-shift, decide}
 use Rattle.protocol.specs.OneWorker.{is-less, is-greater, lower, higher, slide-left, slide-right, from-side, one-worker}
-use Rattle.protocol.proofs.Lawful.{Lawful, order-turn, by-place, versus-is, versus-occ}
-use Rattle.protocol.proofs.Updates.{updated-at, updated-other, not-both, holds-occ, holds-inj}
+use Rattle.protocol.proofs.Lawful.{Lawful, order-turn, by-place, versus-is, versus-occupied}
+use Rattle.protocol.proofs.Updates.{updated-at, updated-other, not-both, holds-occupied, holds-inj}
 use Rattle.protocol.proofs.Sorted.{home-left, home-right, More, more-sorted, between-only}
 use Rattle.protocol.proofs.Worker.{Slid-up, Slid-down, is-higher, is-lower, slid-up, slid-down, worker-gap}
 use Rattle.protocol.proofs.Holding.{holder}
 use Rattle.protocol.proofs.Invariant.{Owner, Keeps, Solid, answer-new, Shifting-left, Shifting-right, Core, region-stable, make, agree-still}
-use Rattle.protocol.proofs.Regions.{fence-left, fence-right, keeps-off}
+use Rattle.protocol.proofs.Regions.{closed-left, closed-right, keeps-off}
 use Rattle.protocol.proofs.Steps.{Done}
 
 module _ {K : Type 0} {N : ℕ} (κ : Lawful K N) {T : ℕ → Content K} {M : ℕ → Bool} {O : ℕ → Owner} {ky : ℕ → K} {st : ℕ → Stage} {S : ℕ → Content K} (c : Core κ T M O ky st S) (s : ℕ) where
@@ -23,7 +23,7 @@ module _ {K : Type 0} {N : ℕ} (κ : Lawful K N) {T : ℕ → Content K} {M : �
     off-left : (t p : ℕ) → s ≢ t → Keeps (st t) p → suc u ≤ p → p ≤ r → ⊥
     off-left t p n h a b =
         ⊎-elim (λ f. f (omega arith) (omega arith)) (λ x. x)
-          (keeps-off κ c s t l r p n (fence-left κ c s l r u e) (inr (d .cell-r)) h (omega arith) b)
+          (keeps-off κ c s t l r p n (closed-left κ c s l r u e) (inr (d .cell-r)) h (omega arith) b)
 
     s-pred : S u ≡ T u
     s-pred = d .kept u (omega arith) (omega arith)
@@ -39,7 +39,7 @@ module _ {K : Type 0} {N : ℕ} (κ : Lawful K N) {T : ℕ → Content K} {M : �
         here : (p : ℕ) → suc u ≡ p → T′ p ≡ T u
         here p n = updated-at T (suc u) p (holds x) n ∙ sym tx
         oc : is-occupied (T u) ≡ true
-        oc = versus-occ κ (ky s) (T u) after v
+        oc = versus-occupied κ (ky s) (T u) after v
         inner : l < u
         inner = ⊎-elim (λ (a : l ≡ u). absurd (not-both (ap S (sym a) ∙ d .el) (ap is-occupied s-pred ∙ oc))) (λ n. omega arith) (cases-eq l u)
         so : (p : ℕ) → Solid T M p → Solid T′ M p
@@ -92,7 +92,7 @@ module _ {K : Type 0} {N : ℕ} (κ : Lawful K N) {T : ℕ → Content K} {M : �
         solid-s p x y =
             ⊎-elim
               (λ (a : p < suc u). ap is-occupied (d .kept p (omega arith) (omega arith)) ∙ d .region .solid p x y .1)
-              (λ a. versus-occ κ k (S p) after (d .afters p a y)) (cases-lt p (suc u))
+              (λ a. versus-occupied κ k (S p) after (d .afters p a y)) (cases-lt p (suc u))
         absent : (q : ℕ) → S q ≡ holds k → ⊥
         absent q z =
             let b = between-only κ (c .sorted) k l r q (d .el) (d .er) (d .region .l-h) (d .region .h-r) z in
@@ -116,7 +116,7 @@ module _ {K : Type 0} {N : ℕ} (κ : Lawful K N) {T : ℕ → Content K} {M : �
                  ⊎-elim (λ (b : r < p). (p, sl .above p b ∙ z))
                    (λ b.
                       ⊎-elim
-                        (λ (y : r ≡ p). absurd (not-both (ap S (sym y) ∙ d .er) (holds-occ z)))
+                        (λ (y : r ≡ p). absurd (not-both (ap S (sym y) ∙ d .er) (holds-occupied z)))
                         (λ n. (suc p, sl .moved p (omega arith) (omega arith) ∙ z)) (cases-eq r p))
                    (cases-lt r p))
               (cases-lt p (suc u))
@@ -125,7 +125,7 @@ module _ {K : Type 0} {N : ℕ} (κ : Lawful K N) {T : ℕ → Content K} {M : �
             ⊎-elim
               (λ (x : q < suc u). ap is-occupied (under q x) ∙ solid-s q a (omega arith))
               (λ x.
-                 ⊎-elim (λ (y : suc u ≡ q). holds-occ (gap q y))
+                 ⊎-elim (λ (y : suc u ≡ q). holds-occupied (gap q y))
                    (λ n. ap is-occupied (went q (omega arith) b) ∙ solid-s (pred q) (omega arith) (omega arith))
                    (cases-eq (suc u) q))
               (cases-lt q (suc u))
@@ -172,7 +172,7 @@ module _ {K : Type 0} {N : ℕ} (κ : Lawful K N) {T : ℕ → Content K} {M : �
           (λ p z.
              (z .0,
               ⊎-elim
-                (λ (y : suc u ≡ p). holds-occ (updated-at T (suc u) p (holds k) y)) (λ n. ap is-occupied (other p n) ∙ z .1)
+                (λ (y : suc u ≡ p). holds-occupied (updated-at T (suc u) p (holds k) y)) (λ n. ap is-occupied (other p n) ∙ z .1)
                 (cases-eq (suc u) p)))
           (λ t p n z.
              ⊎-elim (λ (a : p < suc u). (other p (omega arith), under p a))
@@ -212,7 +212,7 @@ module _ {K : Type 0} {N : ℕ} (κ : Lawful K N) {T : ℕ → Content K} {M : �
               (λ (a : l ≡ u).
                  ⊎-elim
                    (λ (b : p < l). let y = home-left κ (c .sorted) l p x (d .el) b z in by-place κ x (ky s) (omega arith))
-                   (λ b. absurd (not-both (d .el) (holds-occ (ap S (let q : l ≡ p = omega arith in q) ∙ z))))
+                   (λ b. absurd (not-both (d .el) (holds-occupied (ap S (let q : l ≡ p = omega arith in q) ∙ z))))
                    (cases-lt p l))
               (λ n. absurd (not-both em (d .region .solid u (omega arith) (omega arith) .1))) (cases-eq l u))
         go (holds y) ty = by-order (κ .kind .order y (ky s)) refl
@@ -228,7 +228,7 @@ module _ {K : Type 0} {N : ℕ} (κ : Lawful K N) {T : ℕ → Content K} {M : �
     off-right : (t p : ℕ) → s ≢ t → Keeps (st t) p → l ≤ p → p ≤ suc u → ⊥
     off-right t p n h a b =
         ⊎-elim (λ f. f (omega arith) (omega arith)) (λ x. x)
-          (keeps-off κ c s t l r p n (fence-right κ c s l r u e) (inl (d .cell-l)) h (omega arith) (omega arith))
+          (keeps-off κ c s t l r p n (closed-right κ c s l r u e) (inl (d .cell-l)) h (omega arith) (omega arith))
 
     s-next : S (suc (suc u)) ≡ T (suc (suc u))
     s-next = d .kept (suc (suc u)) (omega arith) (omega arith)
@@ -244,7 +244,7 @@ module _ {K : Type 0} {N : ℕ} (κ : Lawful K N) {T : ℕ → Content K} {M : �
         here : (p : ℕ) → suc u ≡ p → T′ p ≡ T (suc (suc u))
         here p n = updated-at T (suc u) p (holds x) n ∙ sym tx
         oc : is-occupied (T (suc (suc u))) ≡ true
-        oc = versus-occ κ (ky s) (T (suc (suc u))) before v
+        oc = versus-occupied κ (ky s) (T (suc (suc u))) before v
         inner : suc (suc u) < r
         inner =
             ⊎-elim
@@ -300,7 +300,7 @@ module _ {K : Type 0} {N : ℕ} (κ : Lawful K N) {T : ℕ → Content K} {M : �
         solid-s p x y =
             ⊎-elim
               (λ (a : suc u < p). ap is-occupied (d .kept p (omega arith) (omega arith)) ∙ d .region .solid p x y .1)
-              (λ a. versus-occ κ k (S p) before (d .befores p x a)) (cases-lt (suc u) p)
+              (λ a. versus-occupied κ k (S p) before (d .befores p x a)) (cases-lt (suc u) p)
         absent : (q : ℕ) → S q ≡ holds k → ⊥
         absent q z =
             let b = between-only κ (c .sorted) k l r q (d .el) (d .er) (d .region .l-h) (d .region .h-r) z in
@@ -321,7 +321,7 @@ module _ {K : Type 0} {N : ℕ} (κ : Lawful K N) {T : ℕ → Content K} {M : �
                  ⊎-elim (λ (b : p < l). (p, sl .under p b ∙ z))
                    (λ b.
                       ⊎-elim
-                        (λ (y : l ≡ p). absurd (not-both (ap S (sym y) ∙ d .el) (holds-occ z)))
+                        (λ (y : l ≡ p). absurd (not-both (ap S (sym y) ∙ d .el) (holds-occupied z)))
                         (λ n. (pred p, sl .moved (pred p) (omega arith) (omega arith) ∙ ap S (let w : suc (pred p) ≡ p = omega arith in w) ∙ z))
                         (cases-eq l p))
                    (cases-lt p l))
@@ -331,7 +331,7 @@ module _ {K : Type 0} {N : ℕ} (κ : Lawful K N) {T : ℕ → Content K} {M : �
             ⊎-elim
               (λ (x : suc u < q). ap is-occupied (sl .above q x) ∙ solid-s q (omega arith) b)
               (λ x.
-                 ⊎-elim (λ (y : suc u ≡ q). holds-occ (ap S′ (sym y) ∙ sl .gap))
+                 ⊎-elim (λ (y : suc u ≡ q). holds-occupied (ap S′ (sym y) ∙ sl .gap))
                    (λ n. ap is-occupied (sl .moved q a (omega arith)) ∙ solid-s (suc q) (omega arith) (omega arith))
                    (cases-eq (suc u) q))
               (cases-lt (suc u) q)
@@ -378,7 +378,7 @@ module _ {K : Type 0} {N : ℕ} (κ : Lawful K N) {T : ℕ → Content K} {M : �
           (λ p z.
              (z .0,
               ⊎-elim
-                (λ (y : suc u ≡ p). holds-occ (updated-at T (suc u) p (holds k) y)) (λ n. ap is-occupied (other p n) ∙ z .1)
+                (λ (y : suc u ≡ p). holds-occupied (updated-at T (suc u) p (holds k) y)) (λ n. ap is-occupied (other p n) ∙ z .1)
                 (cases-eq (suc u) p)))
           (λ t p n z.
              ⊎-elim
@@ -415,7 +415,7 @@ module _ {K : Type 0} {N : ℕ} (κ : Lawful K N) {T : ℕ → Content K} {M : �
               (λ (a : r ≡ suc (suc u)).
                  ⊎-elim
                    (λ (b : r < p). let y = home-right κ (c .sorted) r p x (d .er) b z in by-place κ (ky s) x (omega arith))
-                   (λ b. absurd (not-both (d .er) (holds-occ (ap S (let q : r ≡ p = omega arith in q) ∙ z))))
+                   (λ b. absurd (not-both (d .er) (holds-occupied (ap S (let q : r ≡ p = omega arith in q) ∙ z))))
                    (cases-lt r p))
               (λ n. absurd (not-both em (d .region .solid (suc (suc u)) (omega arith) (omega arith) .1))) (cases-eq r (suc (suc u))))
         go (holds y) ty = by-order (κ .kind .order y (ky s)) refl

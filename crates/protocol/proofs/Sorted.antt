@@ -8,9 +8,10 @@ use Rattle.std.proofs.shelf.Tests.{cases-lt, cases-eq}
 use Rattle.protocol.specs.Cells.{Content, empty, holds, is-occupied}
 use Rattle.protocol.specs.Step.{before}
 use Rattle.protocol.proofs.Lawful.{Lawful}
-use Rattle.protocol.proofs.Updates.{not-both, holds-occ, holds-inj}
+use Rattle.protocol.proofs.Updates.{not-both, holds-occupied, holds-inj}
 
 module _ {K : Type 0} {N : ℕ} (κ : Lawful K N) where
+  -- ascending; from a key to its home, on either side, all places are occupied; nothing at the edges
   pub record Sorted (S : ℕ → Content K) : Type 0 where
     pub asc : (p q : ℕ) (x y : K) → p < q → S p ≡ holds x → S q ≡ holds y → κ .kind .order x y ≡ before
     pub up : (p q : ℕ) (x : K) → S p ≡ holds x → p ≤ q → q ≤ κ .kind .place x → is-occupied (S q) ≡ true
@@ -29,9 +30,9 @@ module _ {K : Type 0} {N : ℕ} (κ : Lawful K N) where
     pub inside : (p : ℕ) (x : K) → S p ≡ holds x → (0 < p) × (p ≤ N)
     inside p x s =
         (⊎-elim (λ a. a)
-           (λ b. absurd (not-both (ok .low) (holds-occ (subst (λ i. S i ≡ holds x) (let z : p ≡ 0 = omega arith in z) s))))
+           (λ b. absurd (not-both (ok .low) (holds-occupied (subst (λ i. S i ≡ holds x) (let z : p ≡ 0 = omega arith in z) s))))
            (cases-lt 0 p),
-         ⊎-elim (λ a. absurd (not-both (ok .high p a) (holds-occ s))) (λ b. b) (cases-lt N p))
+         ⊎-elim (λ a. absurd (not-both (ok .high p a) (holds-occupied s))) (λ b. b) (cases-lt N p))
 
   -- S′ is S with k at g, the other keys in the same order and at most one place away
   pub record More (S S′ : ℕ → Content K) (k : K) (g : ℕ) (R : ℕ → ℕ → Type 0) : Type 0 where
@@ -65,7 +66,7 @@ module _ {K : Type 0} {N : ℕ} (κ : Lawful K N) where
     more-up p q x a le to =
         ⊎-elim
           (λ (e : p ≡ g). let f : κ .kind .place x ≡ κ .kind .place k = ap (κ .kind .place) (key-at p x e a) in m .rise q (omega arith) (omega arith))
-          (λ n. ⊎-elim (λ (e : p ≡ q). holds-occ (subst (λ i. S′ i ≡ holds x) e a))
+          (λ n. ⊎-elim (λ (e : p ≡ q). holds-occupied (subst (λ i. S′ i ≡ holds x) e a))
             (λ n′. let i = m .from p n in let c = m .near p (i .0) (i .1) in m .grown q (ok .up (i .0) q x (sym (i .2) ∙ a) (omega arith) to))
             (cases-eq p q))
           (cases-eq p g)
@@ -74,7 +75,7 @@ module _ {K : Type 0} {N : ℕ} (κ : Lawful K N) where
     more-down p q x a le to =
         ⊎-elim
           (λ (e : p ≡ g). let f : κ .kind .place x ≡ κ .kind .place k = ap (κ .kind .place) (key-at p x e a) in m .fall q (omega arith) (omega arith))
-          (λ n. ⊎-elim (λ (e : p ≡ q). holds-occ (subst (λ i. S′ i ≡ holds x) e a))
+          (λ n. ⊎-elim (λ (e : p ≡ q). holds-occupied (subst (λ i. S′ i ≡ holds x) e a))
             (λ n′. let i = m .from p n in let c = m .near p (i .0) (i .1) in m .grown q (ok .down (i .0) q x (sym (i .2) ∙ a) le (omega arith)))
             (cases-eq p q))
           (cases-eq p g)
@@ -89,9 +90,9 @@ between-only κ {S} ok k l r q sl sr lh hr z = (⊎-elim (λ a. a) (λ a. absurd
   where
     low : q ≤ l → ⊥
     low a =
-        ⊎-elim (λ (y : q ≡ l). not-both sl (holds-occ (ap S (sym y) ∙ z)))
+        ⊎-elim (λ (y : q ≡ l). not-both sl (holds-occupied (ap S (sym y) ∙ z)))
           (λ n. let b = home-left κ ok l q k sl (omega arith) z in omega arith) (cases-eq q l)
     high : r ≤ q → ⊥
     high a =
-        ⊎-elim (λ (y : q ≡ r). not-both sr (holds-occ (ap S (sym y) ∙ z)))
+        ⊎-elim (λ (y : q ≡ r). not-both sr (holds-occupied (ap S (sym y) ∙ z)))
           (λ n. let b = home-right κ ok r q k sr (omega arith) z in omega arith) (cases-eq q r)

@@ -6,13 +6,13 @@ use Rattle.protocol.specs.Stages.{Stage, Idle, Home, Look, Left, Right, FirstM
 use Rattle.protocol.specs.Calls.{says-by, says}
 use Rattle.protocol.specs.Turns.{after-progress}
 
-abbrev pub Told : Stage → Standing → Type 0
-Told x resting = x ≡ Idle
-Told x homing = x ≡ Home
-Told x under-way = Unit {0}
-Told x (done a) = x ≡ Answered a
+abbrev pub Means : Stage → Standing → Type 0
+Means x resting = x ≡ Idle
+Means x homing = x ≡ Home
+Means x under-way = Unit {0}
+Means x (done a) = x ≡ Answered a
 
-pub stage-is : (x : Stage) → Told x (standing x)
+pub stage-is : (x : Stage) → Means x (standing x)
 stage-is Idle = refl
 stage-is Home = refl
 stage-is (Look p) = tt
@@ -30,7 +30,7 @@ stage-is (Answered a) = refl
 pub idle-is : (x : Stage) → not (is-idle x) ≡ false → x ≡ Idle
 idle-is x e = go (standing x) (stage-is x) e
   where
-    go : (y : Standing) → Told x y → not (idle-by y) ≡ false → x ≡ Idle
+    go : (y : Standing) → Means x y → not (idle-by y) ≡ false → x ≡ Idle
     go resting t e = t
     go homing t e = absurd (both-ways true e refl)
     go under-way t e = absurd (both-ways true e refl)

@@ -10,13 +10,13 @@ use Rattle.protocol.specs.Cells.{Content, empty, holds, Rest, Write, cell, is-
 use Rattle.protocol.specs.Stages.{Answer, Inserted, Found, Leftward, Rightward, Stage, Idle, Home, Look, Left, Right, FirstMark, SecondMark, GiveBack, Check, Shift, ReleaseLeft, ReleaseRight, Answered}
 use Rattle.protocol.specs.Step.{before, same, after, Ended, Onward, took, Decision, Versus, none, is, walk-at, decided, at-home, at-look, at-left, at-right, at-first, release, versus, decide}
 use Rattle.protocol.specs.OneWorker.{one-worker}
-use Rattle.protocol.proofs.Lawful.{Lawful, by-place, versus-none, versus-same, versus-occ}
-use Rattle.protocol.proofs.Updates.{updated-same, updated-at, updated-other, not-both, holds-occ, occ-none}
+use Rattle.protocol.proofs.Lawful.{Lawful, by-place, versus-none, versus-same, versus-occupied}
+use Rattle.protocol.proofs.Updates.{updated-same, updated-at, updated-other, not-both, holds-occupied, unoccupied-empty}
 use Rattle.protocol.proofs.Sorted.{home-left, home-right, inside, More, more-sorted}
 use Rattle.protocol.proofs.Worker.{worker-home, worker-found}
 use Rattle.protocol.proofs.Holding.{holder, no-cell, off-one, off-two, one-at, off-edge, two-at, two-edge-l, one-other}
 use Rattle.protocol.proofs.State.{contents-after, marks-after}
-use Rattle.protocol.proofs.Invariant.{Owner, owners-after, Keeps, In-shift, Solid, table-after, Right-answer, answer-told, answer-new, Region, Good, Core, region-mark, marked-by, make, still, own, marking, unmarking}
+use Rattle.protocol.proofs.Invariant.{Owner, owners-after, Keeps, In-shift, Solid, table-after, Right-answer, answer-same, answer-new, Region, Good, Core, region-mark, marked-by, make, still, own, marking, unmarking}
 use Rattle.protocol.proofs.Regions.{good-at, around, relied, clear}
 
 module _ {K : Type 0} {N : ℕ} (κ : Lawful K N) {T : ℕ → Content K} {M : ℕ → Bool} {O : ℕ → Owner} {ky : ℕ → K} {st : ℕ → Stage} {S : ℕ → Content K} (c : Core κ T M O ky st S) (s : ℕ) where
@@ -53,16 +53,16 @@ module _ {K : Type 0} {N : ℕ} (κ : Lawful K N) {T : ℕ → Content K} {M : �
       go t (Answered a) e i = absurd i
 
   -- an effect that leaves the table
-  pub told : (x next : Stage) (a : Answer) → st s ≡ x → ((p : ℕ) → holder N next p ≡ holder N x p) → ((p : ℕ) → In-shift x p → In-shift next p)
+  pub answer-kept : (x next : Stage) (a : Answer) → st s ≡ x → ((p : ℕ) → holder N next p ≡ holder N x p) → ((p : ℕ) → In-shift x p → In-shift next p)
       → Good κ T M S (ky s) next → one-worker (κ .kind) S (ky s) ≡ (S, a) → (a ≡ Inserted → ⊥) → Done (decided Rest next (took a))
-  told x next a e ho sh gd w ni =
-      (subst (λ X. Core κ T M O ky (updated st s next) X) (sym (ap (λ z. z .0) w)) (still κ c s x next e ho sh gd), answer-told κ (ky s) S a w ni)
+  answer-kept x next a e ho sh gd w ni =
+      (subst (λ X. Core κ T M O ky (updated st s next) X) (sym (ap (λ z. z .0) w)) (still κ c s x next e ho sh gd), answer-same κ (ky s) S a w ni)
 
   pub found-at : (x next : Stage) (p : ℕ) → st s ≡ x → ((p : ℕ) → holder N next p ≡ holder N x p) → ((p : ℕ) → In-shift x p → In-shift next p)
       → Good κ T M S (ky s) next → T p ≡ holds (ky s) → Done (decided Rest next (took Found))
   found-at x next p e ho sh gd h =
       let q = in-table p (ky s) h in let i = inside κ (c .sorted) (q .0) (ky s) (q .1) in
-      told x next Found e ho sh gd
+      answer-kept x next Found e ho sh gd
         (worker-found κ S (ky s) (q .0) (c .sorted) (q .1) (i .0) (i .1)) (λ z. let n : _≡_ {A = ℕ} 0 1 = cc in omega arith)
 
   -- the entry at home
@@ -71,7 +71,7 @@ module _ {K : Type 0} {N : ℕ} (κ : Lawful K N) {T : ℕ → Content K} {M : �
   home-put e um em =
       (subst (λ X. Core κ T′ M O ky (updated st s (Answered Inserted)) X) (sym (ap (λ z. z .0) w)) core,
        answer-new κ k S S′ w
-         (λ x p z. (p, updated-other S h p (holds k) (λ y. not-both (ap S (sym y) ∙ s-empty) (holds-occ z)) ∙ z))
+         (λ x p z. (p, updated-other S h p (holds k) (λ y. not-both (ap S (sym y) ∙ s-empty) (holds-occupied z)) ∙ z))
          h (updated-same S h (holds k)))
     where
       k : K
@@ -91,7 +91,7 @@ module _ {K : Type 0} {N : ℕ} (κ : Lawful K N) {T : ℕ → Content K} {M : �
           ⊎-elim (λ o. both-ways (M h) um (marked-by κ c h t (o a b)))
             (λ f. clear κ c t (f .0) (f .1) h (f .2) em um a b (f .3) (f .4)) (relied κ c t h i)
       not-shift : (t : ℕ) → In-shift (st t) h → ⊥
-      not-shift t i = let f = around κ c t h i in clear κ c t (f .l) (f .r) h (f .fenced) em um a b (f .l-p) (f .p-r)
+      not-shift t i = let f = around κ c t h i in clear κ c t (f .l) (f .r) h (f .closed-region) em um a b (f .l-p) (f .p-r)
       s-empty : S h ≡ empty
       s-empty = ⊎-elim (λ z. z ∙ em) (λ i. absurd (not-shift (i .0) (i .1))) (c .agree h)
       w : one-worker (κ .kind) S k ≡ (S′, Inserted)
@@ -106,12 +106,12 @@ module _ {K : Type 0} {N : ℕ} (κ : Lawful K N) {T : ℕ → Content K} {M : �
         near = λ p i x. omega arith;
         grown =
           λ q o.
-            ⊎-elim (λ (z : h ≡ q). holds-occ (updated-at S h q (holds k) z))
+            ⊎-elim (λ (z : h ≡ q). holds-occupied (updated-at S h q (holds k) z))
               (λ n. ap is-occupied (updated-other S h q (holds k) n) ∙ o) (cases-eq h q);
         below = λ p x lt z. by-place κ x k (home-left κ (c .sorted) h p x s-empty lt (s-other p x (omega arith) z));
         above = λ p x lt z. by-place κ k x (home-right κ (c .sorted) h p x s-empty lt (s-other p x (omega arith) z));
-        rise = λ q x y. holds-occ (updated-at S h q (holds k) (omega arith));
-        fall = λ q x y. holds-occ (updated-at S h q (holds k) (omega arith));
+        rise = λ q x y. holds-occupied (updated-at S h q (holds k) (omega arith));
+        fall = λ q x y. holds-occupied (updated-at S h q (holds k) (omega arith));
         low = updated-other S h 0 (holds k) (omega arith) ∙ c .sorted .low;
         high = λ p z. updated-other S h p (holds k) (omega arith) ∙ c .sorted .high p z;
       }
@@ -122,7 +122,7 @@ module _ {K : Type 0} {N : ℕ} (κ : Lawful K N) {T : ℕ → Content K} {M : �
         (λ p. ap (λ y. holder N y p) (sym e) ∙ c .owned s p) (λ t p n. refl) (c .marks)
         (λ p z.
            (z .0,
-            ⊎-elim (λ (y : h ≡ p). holds-occ (updated-at T h p (holds k) y))
+            ⊎-elim (λ (y : h ≡ p). holds-occupied (updated-at T h p (holds k) y))
               (λ n. ap is-occupied (updated-other T h p (holds k) n) ∙ z .1) (cases-eq h p)))
         (λ t p n z.
            let ne : h ≢ p = λ y. free-of t (subst (λ i. Keeps (st t) i) (sym y) z) in
@@ -145,11 +145,11 @@ module _ {K : Type 0} {N : ℕ} (κ : Lawful K N) {T : ℕ → Content K} {M : �
           found-at Home (Answered Found) (κ .kind .place (ky s)) e (λ p. refl) (λ p i. i) tt (versus-same κ (ky s) (T (κ .kind .place (ky s))) z)
       go false (is after) m z =
           (still κ c s Home (Look (pred (κ .kind .place (ky s)))) e (λ p. refl) (λ p i. i)
-             (m, versus-occ κ (ky s) (T (κ .kind .place (ky s))) after z),
+             (m, versus-occupied κ (ky s) (T (κ .kind .place (ky s))) after z),
            tt)
       go false (is before) m z =
           (still κ c s Home (Look (suc (κ .kind .place (ky s)))) e (λ p. refl) (λ p i. i)
-             (m, versus-occ κ (ky s) (T (κ .kind .place (ky s))) before z),
+             (m, versus-occupied κ (ky s) (T (κ .kind .place (ky s))) before z),
            tt)
 
   pub look-step : (p : ℕ) → st s ≡ Look p → Done (decide (κ .kind) (ky s) (Look p) T M)
@@ -231,8 +231,8 @@ module _ {K : Type 0} {N : ℕ} (κ : Lawful K N) {T : ℕ → Content K} {M : �
       go true true o x m z = (still κ c s (FirstMark l r) Home e (λ q. refl) (λ q i. i) tt, tt)
       go true false true x m z = (still κ c s (FirstMark l r) Home e (λ q. refl) (λ q i. i) tt, tt)
       go true false false x m z =
-          (marking κ c s (FirstMark l r) (SecondMark l r) l e m (occ-none (T l) z) (λ q n. off-one N l q n)
-             (one-at N l x) (λ q i. i) (region-mark κ l (occ-none (T l) z) g, occ-none (T l) z),
+          (marking κ c s (FirstMark l r) (SecondMark l r) l e m (unoccupied-empty (T l) z) (λ q n. off-one N l q n)
+             (one-at N l x) (λ q i. i) (region-mark κ l (unoccupied-empty (T l) z) g, unoccupied-empty (T l) z),
            tt)
 
   pub back-step : (g : ℕ) → st s ≡ GiveBack g → Done (decide (κ .kind) (ky s) (GiveBack g) T M)

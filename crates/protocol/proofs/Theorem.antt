@@ -21,7 +21,7 @@ use Rattle.protocol.specs.OneWorker.{table, Alike}
 use Rattle.protocol.specs.Safety.{New-once, Promise, Safe-from, Safe}
 use Rattle.protocol.specs.Examples.{answers}
 use Rattle.protocol.proofs.Lawful.{Lawful, lawful, order-refl}
-use Rattle.protocol.proofs.Standings.{Told, stage-is}
+use Rattle.protocol.proofs.Standings.{Means, stage-is}
 use Rattle.protocol.proofs.Holding.{holder, holder-busy}
 use Rattle.protocol.proofs.State.{State}
 use Rattle.protocol.proofs.Invariant.{Owner, free, by, taken, is-by, is-by-self, is-by-true, by-inj, Good, marked-by}
@@ -30,7 +30,7 @@ use Rattle.protocol.proofs.Effects.{given}
 use Rattle.protocol.proofs.Places.{contents-blank, marks-blank, nth-map}
 use Rattle.protocol.proofs.Barred.{whole-over, barred-unchanged}
 use Rattle.protocol.proofs.Preserved.{Inv}
-use Rattle.protocol.proofs.Kept.{by-check, by-station, seat, seats, state, Kept, Goal, begun-kept, stepping-kept, collected-kept, withdrawing-kept, never-stray}
+use Rattle.protocol.proofs.Kept.{by-check, by-station, record-of, records-of, state, Kept, Goal, begun-kept, stepping-kept, collected-kept, withdrawing-kept, never-no-cell}
 use Rattle.protocol.proofs.Whole.{entered-kept}
 
 clash : {K A : Type 0} {x : K} {c : Content K} → c ≡ empty → c ≡ holds x → A
@@ -79,18 +79,18 @@ module _ {K : Type 0} {N : ℕ} (κ : Lawful K N) (filler : K) where
         (state filler (opening-if false number cs ts filler) no-log) (contents-blank filler cs)
         (marks-blank filler cs) all-idle refl (λ s. refl) (λ s p. refl);
     size = size;
-    answers = λ s h. absurd (both-ways (is-idle (seats filler (idle-records ts) s .stage)) h (ap is-idle (all-idle s)));
+    answers = λ s h. absurd (both-ways (is-idle (records-of filler (idle-records ts) s .stage)) h (ap is-idle (all-idle s)));
     named = λ s. ap (names-cells N) (all-idle s);
   }
     where
-      seat-idle : (b : Bool) (s : ℕ) (o : Content (Station K)) → nth (map idled ts) s ≡ o → seat filler b o .stage ≡ Idle
-      seat-idle true s o e = refl
-      seat-idle false s empty e = refl
-      seat-idle false s (holds t) e = nth-map (λ x. x .stage ≡ Idle) idled (λ x. refl) ts s t e
-      by-count : (b : Bool) → bad-count (length ts) ≡ b → (s : ℕ) → seats filler (cond b ts (map idled ts)) s .stage ≡ Idle
-      by-count true e s = ap (λ b. seat filler b (nth ts s) .stage) e
-      by-count false e s = seat-idle (bad-count (length (map idled ts))) s (nth (map idled ts) s) refl
-      all-idle : (s : ℕ) → seats filler (idle-records ts) s .stage ≡ Idle
+      record-idle : (b : Bool) (s : ℕ) (o : Content (Station K)) → nth (map idled ts) s ≡ o → record-of filler b o .stage ≡ Idle
+      record-idle true s o e = refl
+      record-idle false s empty e = refl
+      record-idle false s (holds t) e = nth-map (λ x. x .stage ≡ Idle) idled (λ x. refl) ts s t e
+      by-count : (b : Bool) → bad-count (length ts) ≡ b → (s : ℕ) → records-of filler (cond b ts (map idled ts)) s .stage ≡ Idle
+      by-count true e s = ap (λ b. record-of filler b (nth ts s) .stage) e
+      by-count false e s = record-idle (bad-count (length (map idled ts))) s (nth (map idled ts) s) refl
+      all-idle : (s : ℕ) → records-of filler (idle-records ts) s .stage ≡ Idle
       all-idle s = by-count (bad-count (length ts)) refl s
 
   -- what a collection gives is the answer of the entry last begun there
@@ -101,13 +101,13 @@ module _ {K : Type 0} {N : ℕ} (κ : Lawful K N) (filler : K) where
         by-check Gives (not (eqb n (w .number))) OtherRegister w _ no-answer (λ _.
           by-station Gives w s _ no-answer (λ b u e.
             by-check Gives (u .withdrawn) NoEntry w _ no-answer (λ _.
-              given-at u (ap (λ x. seat filler x (nth (w .stations) s)) b ∙ ap (seat filler false) e) (standing (u .stage)) (stage-is (u .stage))))))
+              given-at u (ap (λ x. record-of filler x (nth (w .stations) s)) b ∙ ap (record-of filler false) e) (standing (u .stage)) (stage-is (u .stage))))))
     where
       Gives : Out K Answer → Type 0
       Gives o = o .1 ≡ Ok a → g .answer s ≡ took a
       no-answer : {e : Refusal} → Err e ≡ Ok a → g .answer s ≡ took a
       no-answer z = let y : _≡_ {A = ℕ} 0 1 = cc in absurd (omega arith)
-      given-at : (u : Station K) → seats filler (w .stations) s ≡ u → (y : Standing) → Told (u .stage) y → Gives (collecting-at w s u y)
+      given-at : (u : Station K) → records-of filler (w .stations) s ≡ u → (y : Standing) → Means (u .stage) y → Gives (collecting-at w s u y)
       given-at u e resting t z = no-answer z
       given-at u e homing t z = no-answer z
       given-at u e under-way t z = no-answer z
@@ -125,7 +125,7 @@ module _ {K : Type 0} {N : ℕ} (κ : Lawful K N) (filler : K) where
         go free e = absurd (both-ways (marks (w .cells) p) (i .core .marks p ∙ ap taken e) m)
         go (by s) e =
             (s, i .held-is s p ∙ ap (is-by s) e ∙ is-by-self s,
-             i .busy-is s ∙ holder-busy N (seats filler (w .stations) s .stage) p (i .core .owned s p ∙ ap (is-by s) e ∙ is-by-self s),
+             i .busy-is s ∙ holder-busy N (records-of filler (w .stations) s .stage) p (i .core .owned s p ∙ ap (is-by s) e ∙ is-by-self s),
              λ s′ h. by-inj (is-by-true s′ (i .owner p) (sym (i .held-is s′ p) ∙ h)) e)
 
     -- only a station that shifts leaves cells that differ from the one worker's, and it holds a mark
@@ -133,8 +133,8 @@ module _ {K : Type 0} {N : ℕ} (κ : Lawful K N) (filler : K) where
     still-is q p = ⊎-elim sym
         (λ h. let a = around κ (i .core) (h .0) p (h .1) in
               absurd (⊎-elim
-                (λ z. both-ways (marks (w .cells) (a .l)) (q (a .l)) (marked-by κ (i .core) (a .l) (h .0) (a .fenced .own-l z)))
-                (λ z. both-ways (marks (w .cells) (a .r)) (q (a .r)) (marked-by κ (i .core) (a .r) (h .0) (a .fenced .own-r z)))
+                (λ z. both-ways (marks (w .cells) (a .l)) (q (a .l)) (marked-by κ (i .core) (a .l) (h .0) (a .closed-region .own-l z)))
+                (λ z. both-ways (marks (w .cells) (a .r)) (q (a .r)) (marked-by κ (i .core) (a .r) (h .0) (a .closed-region .own-r z)))
                 (a .some-cell)))
         (i .core .agree p)
 
@@ -183,7 +183,7 @@ module _ {K : Type 0} {order : K → K → Ordering} {home : K → ℕ → ℕ} 
       ascending = rising κ filler w g f;
     };
     whole-ends = λ _ _. whole-over κ w (f .size);
-    no-stray = subst (λ m. (s : ℕ) → stepping (kind-over order home m) w s .1 ≡ Err NoCell → ⊥) (sym (f .size)) (never-stray κ filler w g f);
+    never-refused-6 = subst (λ m. (s : ℕ) → stepping (kind-over order home m) w s .1 ≡ Err NoCell → ⊥) (sym (f .size)) (never-no-cell κ filler w g f);
     barred-same =
       subst
         (λ m. (k : K) → whole-entry (kind-over order home m) w k .1 ≡ Err Barred → whole-entry (kind-over order home m) w k .0 ≡ w)
@@ -216,12 +216,12 @@ module _ {K : Type 0} (order : K → K → Ordering) (home : K → ℕ → ℕ) 
   refused-log (withdraw n s) g = refl
   refused-log (enter k) g = refl
 
-  stuck : (ts : List (Turn K)) (g : Log K) → after-turns order home ts (w, g) ≡ (w, g)
+  unchanged : (ts : List (Turn K)) (g : Log K) → after-turns order home ts (w, g) ≡ (w, g)
   unfolding after-turns
-  stuck [] g = refl
-  stuck (t ∷ ts) g =
+  unchanged [] g = refl
+  unchanged (t ∷ ts) g =
       ap (λ o. after-turns order home ts (o .0, logged-over (kind-over order home (length (w .cells))) w t o g)) (all-refused t)
-      ∙ ap (λ h. after-turns order home ts (w, h)) (refused-log t g) ∙ stuck ts g
+      ∙ ap (λ h. after-turns order home ts (w, h)) (refused-log t g) ∙ unchanged ts g
 
   refused-promise : Promise order home (length (w .cells)) w no-log
   unfolding New-once
@@ -229,7 +229,7 @@ module _ {K : Type 0} (order : K → K → Ordering) (home : K → ℕ → ℕ) 
     new-once = tt;
     condition = λ some few. absurd (both-ways (bad-size (length (w .cells))) (good-size (length (w .cells)) some few) bad);
     whole-ends = λ some few. absurd (both-ways (bad-size (length (w .cells))) (good-size (length (w .cells)) some few) bad);
-    no-stray = λ s e. let z = ap (λ o. o .1) (sym (all-refused (step s))) ∙ e in let y : _≡_ {A = ℕ} 0 1 = cc in omega arith;
+    never-refused-6 = λ s e. let z = ap (λ o. o .1) (sym (all-refused (step s))) ∙ e in let y : _≡_ {A = ℕ} 0 1 = cc in omega arith;
     barred-same = λ k e. ap (λ o. o .0) (all-refused (enter k));
   }
     where
@@ -237,7 +237,7 @@ module _ {K : Type 0} (order : K → K → Ordering) (home : K → ℕ → ℕ) 
       good-size n a b = grind arith
 
   refused-safe : Safe-from order home w
-  refused-safe ts = subst (λ a. Promise order home (length (w .cells)) (a .0) (a .1)) (sym (stuck ts no-log)) refused-promise
+  refused-safe ts = subst (λ a. Promise order home (length (w .cells)) (a .0) (a .1)) (sym (unchanged ts no-log)) refused-promise
 
 pub safe : {K : Type 0} {order : K → K → Ordering} {home : K → ℕ → ℕ} → Laws order home → Safe order home
 safe {K} {order} {home} laws number cells stations filler = by-size (bad-size (length cells)) refl

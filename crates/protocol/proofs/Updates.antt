@@ -28,12 +28,12 @@ updated-all P f p a h o q =
 pub not-both : {K : Type 0} {c : Content K} → c ≡ empty → is-occupied c ≡ true → ⊥
 not-both e o = let z : _≡_ {A = Bool} true false = sym o ∙ ap is-occupied e in grind arith
 
-pub holds-occ : {K : Type 0} {c : Content K} {x : K} → c ≡ holds x → is-occupied c ≡ true
-holds-occ e = ap is-occupied e
+pub holds-occupied : {K : Type 0} {c : Content K} {x : K} → c ≡ holds x → is-occupied c ≡ true
+holds-occupied e = ap is-occupied e
 
-pub occ-none : {K : Type 0} (x : Content K) → is-occupied x ≡ false → x ≡ empty
-occ-none empty e = refl
-occ-none (holds y) e = absurd (both-ways true e refl)
+pub unoccupied-empty : {K : Type 0} (x : Content K) → is-occupied x ≡ false → x ≡ empty
+unoccupied-empty empty e = refl
+unoccupied-empty (holds y) e = absurd (both-ways true e refl)
 
 pub holds-inj : {K : Type 0} {x y : K} {c : Content K} → c ≡ holds x → c ≡ holds y → x ≡ y
 holds-inj a b = cc

@@ -18,14 +18,14 @@ use Rattle.protocol.specs.Turns.{enter, Log, noted, watched, log-enter}
 use Rattle.protocol.specs.Examples.{answers}
 use Rattle.protocol.proofs.Lawful.{Lawful}
 use Rattle.protocol.proofs.Updates.{updated-same, updated-at, updated-other}
-use Rattle.protocol.proofs.Standings.{Told, stage-is}
+use Rattle.protocol.proofs.Standings.{Means, stage-is}
 use Rattle.protocol.proofs.Holding.{holder}
 use Rattle.protocol.proofs.State.{State, marks-after, with-station, step-by}
 use Rattle.protocol.proofs.Effects.{given, once, noted-once}
 use Rattle.protocol.proofs.Places.{length-after, Acted, acted, contents-inside, nth-past}
 use Rattle.protocol.proofs.Ends.{left-over, Wide, Falls, falls, positive}
 use Rattle.protocol.proofs.Preserved.{updated-twice, Inv, rest-inv, rekey-inv, begin-inv, step-inv}
-use Rattle.protocol.proofs.Kept.{by-check, spare, seat, seats, state, edge-unmarked, inv-ext, stepped-is, Kept, Goal}
+use Rattle.protocol.proofs.Kept.{by-check, idle-record, record-of, records-of, state, edge-unmarked, inv-ext, stepped-is, Kept, Goal}
 
 module _ {K : Type 0} {N : ℕ} (κ : Lawful K N) (filler : K) (w : World K) (g : Log K) (f : Kept κ filler w g) (k : K) where
   abbrev own-number : ℕ
@@ -38,7 +38,7 @@ module _ {K : Type 0} {N : ℕ} (κ : Lawful K N) (filler : K) (w : World K) (g 
   mid cs x hd = record {
     contents = contents cs;
     marked = marks cs;
-    station = updated (seats filler (w .stations)) own-number (fresh-at x);
+    station = updated (records-of filler (w .stations)) own-number (fresh-at x);
     effects = noted k (given x) (g .effects);
     unfinished = updated (g .unfinished) own-number (busy x);
     held = hd;
@@ -51,17 +51,17 @@ module _ {K : Type 0} {N : ℕ} (κ : Lawful K N) (filler : K) (w : World K) (g 
     others : (s p : ℕ) → own-number ≢ s → hd s p ≡ g .held s p
     size : length cs ≡ N
 
-  own-spare : seats filler (w .stations) own-number ≡ spare filler
-  own-spare = go (bad-count (length (w .stations))) (nth (w .stations) own-number) (nth-past (w .stations) own-number (omega arith))
+  own-idle : records-of filler (w .stations) own-number ≡ idle-record filler
+  own-idle = go (bad-count (length (w .stations))) (nth (w .stations) own-number) (nth-past (w .stations) own-number (omega arith))
     where
-      go : (b : Bool) (o : Content (Station K)) → o ≡ empty → seat filler b o ≡ spare filler
+      go : (b : Bool) (o : Content (Station K)) → o ≡ empty → record-of filler b o ≡ idle-record filler
       go true o e = refl
-      go false o e = ap (seat filler false) e
+      go false o e = ap (record-of filler false) e
 
   mid-start : Mid (w .cells) Home
   mid-start =
       record {
-        hd = g .held; inv = begin-inv κ (state filler w g) (f .inv) own-number k (ap (λ x. x .stage) own-spare); others = λ s p n. refl;
+        hd = g .held; inv = begin-inv κ (state filler w g) (f .inv) own-number k (ap (λ x. x .stage) own-idle); others = λ s p n. refl;
         size = f .size;
       }
 
@@ -69,7 +69,7 @@ module _ {K : Type 0} {N : ℕ} (κ : Lawful K N) (filler : K) (w : World K) (g 
   mid-step cs x d = record {
     hd = hd′;
     inv = inv-ext κ (step-by v own-number (fresh-at x) m (m .next)) (mid (cells-after (m .act) cs) (m .next) hd′) (act-is .0) (act-is .1)
-      (λ r. ap (λ z. z r) (sym (updated-twice (seats filler (w .stations)) own-number (fresh-at x) (fresh-at (m .next)))))
+      (λ r. ap (λ z. z r) (sym (updated-twice (records-of filler (w .stations)) own-number (fresh-at x) (fresh-at (m .next)))))
       (sym (noted-once k (g .effects) (m .effect) (given x) (given (m .next)) (once (κ .kind) k x (contents cs) (marks cs))))
       (λ r. ap (λ z. z r) (sym (updated-twice (g .unfinished) own-number (busy x) (busy (m .next)))))
       (λ r p. refl) after-it;
@@ -91,7 +91,7 @@ module _ {K : Type 0} {N : ℕ} (κ : Lawful K N) (filler : K) (w : World K) (g 
       after-it : Inv κ (step-by v own-number (fresh-at x) m (m .next))
       after-it =
           subst (Inv κ)
-            (stepped-is κ v own-number (fresh-at x) (updated-same (seats filler (w .stations)) own-number (fresh-at x)))
+            (stepped-is κ v own-number (fresh-at x) (updated-same (records-of filler (w .stations)) own-number (fresh-at x)))
             (step-inv κ v (d .inv) own-number)
       act-is : Acted (m .act) cs
       act-is =
@@ -113,12 +113,12 @@ module _ {K : Type 0} {N : ℕ} (κ : Lawful K N) (filler : K) (w : World K) (g 
     inv = inv-ext κ v₂ (state filler (entered-cells cs) (entered-log (given x))) (λ p. refl) (λ p. refl)
       (λ r.
          ⊎-elim
-           (λ (z : own-number ≡ r). ap (seats filler (w .stations)) (sym z) ∙ own-spare ∙ sym (updated-at (v₁ .station) own-number r (spare filler) z))
+           (λ (z : own-number ≡ r). ap (records-of filler (w .stations)) (sym z) ∙ own-idle ∙ sym (updated-at (v₁ .station) own-number r (idle-record filler) z))
            (λ n.
               sym
-                (updated-other (v₁ .station) own-number r (spare filler) n
+                (updated-other (v₁ .station) own-number r (idle-record filler) n
                  ∙ updated-other (v .station) own-number r (idled (v .station own-number)) n
-                 ∙ updated-other (seats filler (w .stations)) own-number r (fresh-at x) n))
+                 ∙ updated-other (records-of filler (w .stations)) own-number r (fresh-at x) n))
            (cases-eq own-number r))
       refl
       (λ r.
@@ -126,7 +126,7 @@ module _ {K : Type 0} {N : ℕ} (κ : Lawful K N) (filler : K) (w : World K) (g 
            (λ (z : own-number ≡ r).
               ap (g .unfinished) (sym z)
               ∙ f .inv .busy-is own-number
-              ∙ ap (λ y. busy (y .stage)) own-spare
+              ∙ ap (λ y. busy (y .stage)) own-idle
               ∙ sym (updated-at (v₁ .unfinished) own-number r false z))
            (λ n.
               sym
@@ -138,10 +138,10 @@ module _ {K : Type 0} {N : ℕ} (κ : Lawful K N) (filler : K) (w : World K) (g 
          ⊎-elim
            (λ (z : own-number ≡ s).
               ap (λ y. g .held y p) (sym z)
-              ∙ idle-held (state filler w g) (f .inv) own-number (ap (λ y. y .stage) own-spare) p
+              ∙ idle-held (state filler w g) (f .inv) own-number (ap (λ y. y .stage) own-idle) p
               ∙ sym
                   (ap (λ y. d .hd y p) (sym z)
-                   ∙ idle-held v₂ i₂ own-number (ap (λ y. y .stage) (updated-same (v₁ .station) own-number (spare filler))) p))
+                   ∙ idle-held v₂ i₂ own-number (ap (λ y. y .stage) (updated-same (v₁ .station) own-number (idle-record filler))) p))
            (λ n. sym (d .others s p n)) (cases-eq own-number s))
       i₂;
     size = d .size;
@@ -154,9 +154,9 @@ module _ {K : Type 0} {N : ℕ} (κ : Lawful K N) (filler : K) (w : World K) (g 
       v₁ : State K
       v₁ = with-station v own-number (idled (v .station own-number)) false
       v₂ : State K
-      v₂ = with-station v₁ own-number (spare filler) false
+      v₂ = with-station v₁ own-number (idle-record filler) false
       i₁ : Inv κ v₁
-      i₁ = rest-inv κ v (d .inv) own-number x (ap (λ y. y .stage) (updated-same (seats filler (w .stations)) own-number (fresh-at x))) h
+      i₁ = rest-inv κ v (d .inv) own-number x (ap (λ y. y .stage) (updated-same (records-of filler (w .stations)) own-number (fresh-at x))) h
       i₂ : Inv κ v₂
       i₂ = rekey-inv κ v₁ i₁ own-number filler (ap (λ y. y .stage) (updated-same (v .station) own-number (idled (v .station own-number))))
 
@@ -165,7 +165,7 @@ module _ {K : Type 0} {N : ℕ} (κ : Lawful K N) (filler : K) (w : World K) (g 
 
   -- after a step: it has ended, or it goes on
   ends-kept : (cs : List (Cell K)) (x : Stage) → Mid cs x → is-idle x ≡ false → (o : List (Cell K) × Stage) → (busy x ≡ true → Ended-kept o)
-      → (y : Standing) → Told x y → standing x ≡ y → Ended-kept (ends-by y (cs, x) o)
+      → (y : Standing) → Means x y → standing x ≡ y → Ended-kept (ends-by y (cs, x) o)
   ends-kept cs x d h o i resting t e = absurd (both-ways (is-idle x) h (ap idle-by e))
   ends-kept cs x d h o i homing t e = subst (λ z. Ended-kept (cs, z)) (sym t) (mid-end cs Home (subst (Mid cs) t d) refl)
   ends-kept cs x d h o i under-way t e = i (ap busy-by e)

@@ -27,28 +27,28 @@ module _ {K : Type 0} where
     pub above : (p : ℕ) → f < p → S′ p ≡ S p
     pub moved : (p : ℕ) → l ≤ p → p < f → S′ p ≡ S (suc p)
 
-  occ-empty : {c : Content K} → c ≡ empty → is-occupied c ≡ false
-  occ-empty e = ap is-occupied e
+  empty-unoccupied : {c : Content K} → c ≡ empty → is-occupied c ≡ false
+  empty-unoccupied e = ap is-occupied e
 
-  pub below-is : (S : ℕ → Content K) (l h : ℕ) → l < h → S l ≡ empty → ((p : ℕ) → l < p → p < h → is-occupied (S p) ≡ true) → empty-left S h ≡ l
+  pub empty-left-is : (S : ℕ → Content K) (l h : ℕ) → l < h → S l ≡ empty → ((p : ℕ) → l < p → p < h → is-occupied (S p) ≡ true) → empty-left S h ≡ l
   unfolding empty-left
-  below-is S l zero lt e o = absurd (omega arith)
-  below-is S l (suc h) lt e o =
-      ⊎-elim (λ (q : l ≡ h). cond-false (is-occupied (S h)) (empty-left S h) h (occ-empty (subst (λ i. S i ≡ empty) q e)) ∙ sym q)
+  empty-left-is S l zero lt e o = absurd (omega arith)
+  empty-left-is S l (suc h) lt e o =
+      ⊎-elim (λ (q : l ≡ h). cond-false (is-occupied (S h)) (empty-left S h) h (empty-unoccupied (subst (λ i. S i ≡ empty) q e)) ∙ sym q)
         (λ n.
            cond-true (is-occupied (S h)) (empty-left S h) h (o h (omega arith) (omega arith))
-           ∙ below-is S l h (omega arith) e (λ p a b. o p a (omega arith)))
+           ∙ empty-left-is S l h (omega arith) e (λ p a b. o p a (omega arith)))
         (cases-eq l h)
 
-  pub from-is : (n : ℕ) (S : ℕ → Content K) (h r : ℕ) → h ≤ r → r ≤ h + n → S r ≡ empty → ((p : ℕ) → h ≤ p → p < r → is-occupied (S p) ≡ true)
+  pub empty-right-is : (n : ℕ) (S : ℕ → Content K) (h r : ℕ) → h ≤ r → r ≤ h + n → S r ≡ empty → ((p : ℕ) → h ≤ p → p < r → is-occupied (S p) ≡ true)
       → empty-right S n h ≡ r
   unfolding empty-right
-  from-is zero S h r le to e o = omega arith
-  from-is (suc n) S h r le to e o =
-      ⊎-elim (λ (q : r ≡ h). cond-false (is-occupied (S h)) (empty-right S n (suc h)) h (occ-empty (subst (λ i. S i ≡ empty) q e)) ∙ sym q)
+  empty-right-is zero S h r le to e o = omega arith
+  empty-right-is (suc n) S h r le to e o =
+      ⊎-elim (λ (q : r ≡ h). cond-false (is-occupied (S h)) (empty-right S n (suc h)) h (empty-unoccupied (subst (λ i. S i ≡ empty) q e)) ∙ sym q)
         (λ x.
            cond-true (is-occupied (S h)) (empty-right S n (suc h)) h (o h (omega arith) (omega arith))
-           ∙ from-is n S (suc h) r (omega arith) (omega arith) e (λ p a b. o p (omega arith) b))
+           ∙ empty-right-is n S (suc h) r (omega arith) (omega arith) e (λ p a b. o p (omega arith) b))
         (cases-eq r h)
 
   pub all-true : (n : ℕ) (S : ℕ → Content K) → ((p : ℕ) → 0 < p → p ≤ n → is-occupied (S p) ≡ true) → all-occupied n S ≡ true
@@ -61,7 +61,7 @@ module _ {K : Type 0} where
   unfolding all-occupied
   all-false zero S e a b h = absurd (omega arith)
   all-false (suc n) S e a b h =
-      ⊎-elim (λ (q : e ≡ suc n). and-left (is-occupied (S (suc n))) (all-occupied n S) (occ-empty (subst (λ i. S i ≡ empty) q h)))
+      ⊎-elim (λ (q : e ≡ suc n). and-left (is-occupied (S (suc n))) (all-occupied n S) (empty-unoccupied (subst (λ i. S i ≡ empty) q h)))
         (λ x. and-right (is-occupied (S (suc n))) (all-occupied n S) (all-false n S e a (omega arith) h))
         (cases-eq e (suc n))
 
@@ -182,7 +182,7 @@ module _ {K : Type 0} {N : ℕ} (κ : Lawful K N) where
   pub worker-home : (S : ℕ → Content K) (k : K) → S (κ .kind .place k) ≡ empty
       → one-worker (κ .kind) S k ≡ (updated S (κ .kind .place k) (holds k), Inserted)
   unfolding one-worker
-  worker-home S k e = ap (λ b. unless-home (κ .kind) b S k) (occ-empty e)
+  worker-home S k e = ap (λ b. unless-home (κ .kind) b S k) (empty-unoccupied e)
 
   pub worker-found : (S : ℕ → Content K) (k : K) (q : ℕ) → Sorted κ S → S q ≡ holds k → 0 < q → q ≤ N → one-worker (κ .kind) S k ≡ (S, Found)
   unfolding one-worker
@@ -210,5 +210,5 @@ module _ {K : Type 0} {N : ℕ} (κ : Lawful K N) where
       ap (λ b. unless-home (κ .kind) b S k) (o (κ .kind .place k) lh hr)
       ∙ ap (λ b. unless-found (κ .kind) b S k) (has-false N S k a)
       ∙ ap (λ b. unless-full (κ .kind) b S k) (all-false N S e e0 e1 ee)
-      ∙ ap (λ x. between (κ .kind) S k x (empty-right S N (κ .kind .place k))) (below-is S l (κ .kind .place k) lh el (λ p b c. o p b (omega arith)))
-      ∙ ap (λ x. between (κ .kind) S k l x) (from-is N S (κ .kind .place k) r (omega arith) (omega arith) er (λ p b c. o p (omega arith) c))
+      ∙ ap (λ x. between (κ .kind) S k x (empty-right S N (κ .kind .place k))) (empty-left-is S l (κ .kind .place k) lh el (λ p b c. o p b (omega arith)))
+      ∙ ap (λ x. between (κ .kind) S k l x) (empty-right-is N S (κ .kind .place k) r (omega arith) (omega arith) er (λ p b c. o p (omega arith) c))

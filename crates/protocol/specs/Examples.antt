@@ -91,12 +91,16 @@ abbrev pub begun-100 : World Tray
 begun-100 = does (steps begun-400 0 6) (begin 1 (tray 100))
 
 -- withdrawn after its sixth step, when it holds a mark
-abbrev pub left-400 : World Tray
-left-400 = does (steps begun-400 0 6) (withdraw 5 0)
+abbrev pub withdrawn-400 : World Tray
+withdrawn-400 = does (steps begun-400 0 6) (withdraw 5 0)
+
+-- it has marked the left boundary when 900 takes the right one; then it is withdrawn
+abbrev pub overtaken-400 : World Tray
+overtaken-400 = does (does (steps begun-400 0 5) (enter (tray 900))) (withdraw 5 0)
 
 -- a record that no opened register has
-abbrev pub stray : World Tray
-stray = record { number = 5; cells = old-cells 3; stations = record { key = tray 7; stage = GiveBack 3; withdrawn = false } ∷ [] }
+abbrev pub wrong-record : World Tray
+wrong-record = record { number = 5; cells = old-cells 3; stations = record { key = tray 7; stage = GiveBack 3; withdrawn = false } ∷ [] }
 
 pub record Examples : Type 0 where
   -- ten cells and eight trays, by one worker and by whole entries
@@ -121,9 +125,12 @@ pub record Examples : Type 0 where
   pub home-said : turned trayOrder trayHome begun-100 (step 1) .1 ≡ Ok progress.GoesOn
   pub home-stays : nth (does begun-100 (step 1) .stations) 1 ≡ holds (record { key = tray 100; stage = Home; withdrawn = false })
   -- withdrawn then, the station goes on, and becomes idle where it would be answered; its key is new all the same
-  pub left-said : turned trayOrder trayHome (steps begun-400 0 6) (withdraw 5 0) .1 ≡ Ok departure.GoesOn
-  pub left-steps : sayings left-400 0 6 ≡ (Ok progress.GoesOn ∷ Ok progress.GoesOn ∷ Ok progress.GoesOn ∷ Ok progress.GoesOn ∷ Ok progress.GoesOn ∷ Ok progress.Idle ∷ [])
-  pub left-cells : row (steps left-400 0 6) ≡ (empty ∷ holds 400 ∷ holds 500 ∷ [])
+  pub withdrawn-said : turned trayOrder trayHome (steps begun-400 0 6) (withdraw 5 0) .1 ≡ Ok departure.GoesOn
+  pub withdrawn-steps : sayings withdrawn-400 0 6 ≡ (Ok progress.GoesOn ∷ Ok progress.GoesOn ∷ Ok progress.GoesOn ∷ Ok progress.GoesOn ∷ Ok progress.GoesOn ∷ Ok progress.Idle ∷ [])
+  pub withdrawn-cells : row (steps withdrawn-400 0 6) ≡ (empty ∷ holds 400 ∷ holds 500 ∷ [])
+  -- withdrawn with the right boundary lost, it gives the left one back, and becomes idle where it would return to home
+  pub overtaken-steps : sayings overtaken-400 0 3 ≡ (Ok progress.GoesOn ∷ Ok progress.Idle ∷ Err NoEntry ∷ [])
+  pub overtaken-cells : row (steps overtaken-400 0 2) ≡ (empty ∷ holds 500 ∷ holds 900 ∷ [])
   -- withdrawn at home it is gone at once
   pub gone-said : turned trayOrder trayHome begun-400 (withdraw 5 0) .1 ≡ Ok departure.Gone
   -- each refusal once
@@ -132,6 +139,6 @@ pub record Examples : Type 0 where
   pub refused-3 : turned trayOrder trayHome begun-400 (step 2) .1 ≡ Err NoStation
   pub refused-4 : turned trayOrder trayHome begun-400 (begin 0 (tray 450)) .1 ≡ Err NotIdle
   pub refused-5 : turned trayOrder trayHome (does (steps begun-400 0 12) (collect 5 0)) (collect 5 0) .1 ≡ Err NoEntry
-  pub refused-6 : turned trayOrder trayHome stray (step 0) .1 ≡ Err NoCell
+  pub refused-6 : turned trayOrder trayHome wrong-record (step 0) .1 ≡ Err NoCell
   pub refused-7 : turned trayOrder trayHome begun-400 (collect 5 0) .1 ≡ Err NotAnswered
   pub refused-8 : turned trayOrder trayHome begun-100 (enter (tray 100)) .1 ≡ Err Barred

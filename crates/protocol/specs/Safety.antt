@@ -49,7 +49,7 @@ module _ {K : Type 0} (order : K → K → Ordering) (home : K → ℕ → ℕ) 
     pub new-once : New-once (g .effects)
     pub condition : 1 ≤ n → n ≤ 65536 → Condition n w g
     -- no record of an opened register names a cell that is none
-    pub no-stray : (s : ℕ) → turned order home w (step s) .1 ≡ Err NoCell → ⊥
+    pub never-refused-6 : (s : ℕ) → turned order home w (step s) .1 ≡ Err NoCell → ⊥
     -- a whole entry's steps are over before they are enough: that they are limited decides nothing
     pub whole-ends : 1 ≤ n → n ≤ 65536 → (k : K) → Ended-stage (alone (kind-over order home n) (enough n) k (w .cells) Home .1)
     -- a whole entry that a mark bars has changed nothing
