@@ -22,7 +22,7 @@ pub struct Cell<K> {
 }
 
 /// What an entry is told of its key.
-#[derive(Clone, Copy)]
+#[derive(Clone, Copy, PartialEq, Eq, Debug)]
 pub enum Answer {
     /// The key was new and has been written.
     Inserted,
@@ -111,7 +111,7 @@ pub enum Walk {
 }
 
 /// What an accepted step says.
-#[derive(Clone, Copy)]
+#[derive(Clone, Copy, PartialEq, Eq, Debug)]
 pub enum Progress {
     GoesOn,
     Answered,
@@ -119,7 +119,7 @@ pub enum Progress {
 }
 
 /// What an accepted withdrawal says.
-#[derive(Clone, Copy)]
+#[derive(Clone, Copy, PartialEq, Eq, Debug)]
 pub enum Departure {
     /// The entry held no mark, and the station is idle.
     Gone,
@@ -128,7 +128,7 @@ pub enum Departure {
 }
 
 /// Why a call of the register is turned down.
-#[derive(Clone, Copy)]
+#[derive(Clone, Copy, PartialEq, Eq, Debug)]
 pub enum Refusal {
     /// The register has no cells or more than 65,536.
     WrongSize,
