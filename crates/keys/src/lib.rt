@@ -27,7 +27,7 @@ pub trait Key: Copy {
 }
 
 /// The number of a coin type.
-#[derive(Clone, Copy)]
+#[derive(Clone, Copy, PartialEq, Eq, Debug)]
 pub struct TypeNumber {
     number: u32,
 }
@@ -61,13 +61,13 @@ pub impl Key for TypeNumber as TypeNumberKey {
 }
 
 /// A tray of the coin cabinet, 0 to 999.
-#[derive(Clone, Copy)]
+#[derive(Clone, Copy, PartialEq, Eq, Debug)]
 pub struct Tray {
     number: u16,
 }
 
 /// The refusal of a tray number above 999.
-#[derive(Clone, Copy)]
+#[derive(Clone, Copy, PartialEq, Eq, Debug)]
 pub struct AboveLimit;
 
 impl AboveLimit {

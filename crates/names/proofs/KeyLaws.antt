@@ -1,11 +1,12 @@
 -- Names as keys: comparing digits from the first is comparing the three words, and the laws follow.
 use mathlib.Core.Path.{_≡_, refl, sym, _∙_, ap}
+use mathlib.Core.Bool.{Bool, true}
 use mathlib.Core.List.{List, [], _∷_}
 use Prim.Native.Nat.{ℕ, zero, suc, _+_, _*_, _/_, _%_, _≤_, _<_}
 use native.Mathlib.Omega.{arith}
 use lib.ListN.{getD}
 use Rattle.std.proofs.shelf.Ways.{tells}
-use Rattle.std.specs.Orderings.{reversed, thenBy, Ranked}
+use Rattle.std.specs.Orderings.{isEq, reversed, thenBy, Ranked, Decides}
 use Rattle.std.specs.declared.cmp.Ordering.{Ordering}
 use Rattle.std.specs.declared.cmp.Ordering.the-variants.{Less, Equal, Greater}
 use Rattle.keys.specs.Laws.{Laws}
@@ -103,3 +104,15 @@ name-laws = record {
       rw (home-by-word x n, home-by-word y n)
         (share-rises 1048576 (x .high / 1152921504606846976) (y .high / 1152921504606846976) n (omega arith) (omega arith));
 }
+
+-- equal names are the same, and no others
+is-equal : (o : Ordering) → isEq o ≡ true → o ≡ Equal
+is-equal Less e = cc
+is-equal Equal e = refl
+is-equal Greater e = cc
+
+pub equality-decides : (x y : Name) (r : Bool) → r ≡ isEq (nameOrder x y) → Decides r (x ≡ y)
+equality-decides x y r e = (
+  λ t. name-laws .equal x y (is-equal (nameOrder x y) (sym e ∙ t)),
+  λ q. e ∙ ap (λ (v : Name). isEq (nameOrder x v)) (sym q) ∙ ap isEq (name-laws .itself x),
+)

@@ -1,10 +1,9 @@
 //! Mint names: read from UTF-8, kept as a key of 24 digits, compared from the first digit.
 ghost use mathlib.Core.Path.{_≡_};
-ghost use mathlib.Core.Bool.{true};
 ghost use mathlib.Core.List.{List};
 ghost use Prim.Native.Nat.{_+_, _≤_};
 ghost use lib.ListN.{getD};
-ghost use Rattle.std.specs.Orderings.{isEq};
+ghost use Rattle.std.specs.Orderings.{Decides};
 ghost use Rattle.std.specs.declared.option.Option.the-variants.{Some};
 ghost use Rattle.names.specs.Letters.{Letter};
 ghost use Rattle.names.specs.Reading.{refusalNumber, stepped, wordAt, packed, reading};
@@ -18,7 +17,7 @@ mod letters;
 mod utf8;
 
 /// Why a name is refused.
-#[derive(Clone, Copy)]
+#[derive(Clone, Copy, PartialEq, Eq, Debug)]
 pub enum Reason {
     /// Ill-formed UTF-8.
     IllFormed,
@@ -31,7 +30,7 @@ pub enum Reason {
 }
 
 /// The refusal of a name: why, and the number, from 0, of the byte where the first faulty code point begins.
-#[derive(Clone, Copy)]
+#[derive(Clone, Copy, PartialEq, Eq, Debug)]
 pub struct Fault {
     pub reason: Reason,
     pub place: usize,
@@ -54,7 +53,7 @@ impl Fault {
 /// The key of a mint name: 24 digits in base 1,024, one for each letter with its mark, unused ones last and 0.
 ///
 /// Eight digits stand in each word, the first one highest.
-#[derive(Clone, Copy)]
+#[derive(Clone, Copy, Debug)]
 pub struct Name {
     high: u128,
     middle: u128,
@@ -75,6 +74,32 @@ pub impl Key for Name as NameKey {
     fn home(self, n: usize) -> usize {
         let first_two = (self.high >> 60).min(1_048_575);
         (first_two * n as u128 / 1_048_576) as usize
+    }
+}
+
+pub impl PartialEq<Name> for Name as NamePartialEq {
+    ghost equals = { λ x y r. Decides r (x ≡ y) };
+
+    fn eq(&self, other: &Name) -> bool {
+        self.compare(*other).is_eq()
+    }
+}
+
+pub impl Eq for Name as NameEq {}
+
+pub impl PartialOrd<Name> for Name as NamePartialOrd {
+    ghost compares = { λ x y r. r ≡ Some (nameOrder x y) };
+
+    fn partial_cmp(&self, other: &Name) -> Option<Ordering> {
+        Some(self.compare(*other))
+    }
+}
+
+pub impl Ord for Name as NameOrd {
+    ghost orders = { λ x y r. r ≡ nameOrder x y };
+
+    fn cmp(&self, other: &Name) -> Ordering {
+        self.compare(*other)
     }
 }
 
