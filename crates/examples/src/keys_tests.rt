@@ -1,9 +1,7 @@
 //! Type numbers and trays: limits, homes and order.
-use keys::AboveLimit;
 use keys::AboveLimitDebug;
 use keys::Key;
 use keys::Tray;
-use keys::TrayDebug;
 use keys::TrayKey;
 use keys::TypeNumber;
 use keys::TypeNumberKey;
@@ -62,16 +60,16 @@ const TYPE_HOMES: [(u32, usize, usize); 10] = [
 #[test]
 fn types_have_homes() -> Result<(), Fail> {
     for (number, cells, home) in TYPE_HOMES.iter() {
-        check_eq(TypeNumber::new(*number).home(*cells), *home)?;
+        check_eq(TypeNumber(*number).home(*cells), *home)?;
     }
     Ok(())
 }
 
 #[test]
 fn numbers_are_compared_by_size() -> Result<(), Fail> {
-    check(TypeNumber::new(1).compare(TypeNumber::new(2)).is_lt())?;
-    check(TypeNumber::new(2).compare(TypeNumber::new(2)).is_eq())?;
-    check(TypeNumber::new(u32::MAX).compare(TypeNumber::new(0)).is_gt())?;
+    check(TypeNumber(1).compare(TypeNumber(2)).is_lt())?;
+    check(TypeNumber(2).compare(TypeNumber(2)).is_eq())?;
+    check(TypeNumber(u32::MAX).compare(TypeNumber(0)).is_gt())?;
     check(Tray::new(1)?.compare(Tray::new(2)?).is_lt())?;
     check(Tray::new(999)?.compare(Tray::new(999)?).is_eq())?;
     check(Tray::new(256)?.compare(Tray::new(255)?).is_gt())

@@ -10,4 +10,6 @@ pub fn name_examples()
 #[cfg(test)]
 mod keys_tests;
 #[cfg(test)]
+mod lists_tests;
+#[cfg(test)]
 mod names_tests;

@@ -6,14 +6,14 @@ use Prim.Native.Nat.{ℕ, zero, suc, _+_, _*_, _/_, _%_, _≤_, _<_}
 use native.Mathlib.Omega.{arith}
 use lib.ListN.{getD}
 use Rattle.std.proofs.shelf.Ways.{tells}
-use Rattle.std.specs.Orderings.{isEq, reversed, thenBy, Ranked, Decides}
+use Rattle.std.specs.Orderings.{isEq, reversed, thenBy, Decides}
 use Rattle.std.specs.declared.cmp.Ordering.{Ordering}
 use Rattle.std.specs.declared.cmp.Ordering.the-variants.{Less, Equal, Greater}
 use Rattle.keys.specs.Laws.{Laws}
 use Rattle.keys.specs.Kinds.{bySize, share}
 use Rattle.keys.proofs.Sizes.{size-itself, size-equal, share-below, share-rises}
 use Rattle.names.specs.declared.Name.{Name}
-use Rattle.names.specs.Digits.{digitsOfWord, digitsOf, byDigits, nameOrder, nameHome}
+use Rattle.names.specs.Digits.{digitsOfWord, digitsOf, byDigits, nameOrder, nameHome, byWords, firstTwo}
 
 then-then : (a b c : Ordering) → thenBy (thenBy a b) c ≡ thenBy a (thenBy b c)
 then-then Less b c = refl
@@ -36,9 +36,6 @@ word-first (suc n) a b ds es =
     ∙ sym (then-then (bySize (a / 1024) (b / 1024)) (bySize (a % 1024) (b % 1024)) (byDigits ds es))
     ∙ ap (λ (o : Ordering). thenBy o (byDigits ds es)) (size-by-digit a b)
 
-abbrev pub byWords : Name → Name → Ordering
-byWords x y = thenBy (bySize (x .high) (y .high)) (thenBy (bySize (x .middle) (y .middle)) (bySize (x .low) (y .low)))
-
 pub order-by-words : (x y : Name) → nameOrder x y ≡ byWords x y
 unfolding nameOrder digitsOf
 order-by-words x y =
@@ -49,20 +46,17 @@ order-by-words x y =
       word-first 7 (x .middle) (y .middle) (lowDigits x) (lowDigits y)
       ∙ ap (thenBy (bySize (x .middle) (y .middle))) (word-first 7 (x .low) (y .low) [] [] ∙ then-equal (bySize (x .low) (y .low))))
 
--- what `cmp` answers of two numbers
-pub ranked-is-size : (x y : ℕ) (r : Ordering) → Ranked r (x < y) (x ≡ y) (y < x) → r ≡ bySize x y
-ranked-is-size x y Less h = grind (arith, tells)
-ranked-is-size x y Equal h = grind (arith, tells)
-ranked-is-size x y Greater h = grind (arith, tells)
-
 -- the first two digits are the number above the last six of the first word
-pub first-two : (x : Name) → getD (digitsOf x) 0 0 * 1024 + getD (digitsOf x) 1 0 ≡ x .high / 1152921504606846976
+first-two : (x : Name) → getD (digitsOf x) 0 0 * 1024 + getD (digitsOf x) 1 0 ≡ x .high / 1152921504606846976
 unfolding digitsOf
 first-two x = omega arith
 
-pub home-by-word : (x : Name) (n : ℕ) → nameHome x n ≡ share 1048576 (x .high / 1152921504606846976) n
+home-by-word : (x : Name) (n : ℕ) → nameHome x n ≡ share 1048576 (x .high / 1152921504606846976) n
 unfolding nameHome
 home-by-word x n = ap (λ k. share 1048576 k n) (first-two x)
+
+pub home-by-two : (x : Name) (n : ℕ) → firstTwo x * n / 1048576 ≡ nameHome x n
+home-by-two x n = sym (home-by-word x n)
 
 -- the laws, of the words
 words-itself : (x : Name) → byWords x x ≡ Equal

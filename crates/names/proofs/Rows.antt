@@ -15,12 +15,13 @@ use Rattle.std.specs.declared.result.Result.{Result}
 use Rattle.std.specs.declared.result.Result.the-variants.{Ok, Err}
 use Rattle.names.specs.declared.Fault.{Fault}
 use Rattle.names.specs.declared.Row.{Row}
+use Rattle.names.specs.declared.Reason.{Reason}
 use Rattle.names.specs.declared.Reason.the-variants.{IllFormed, NotListed, LooseMark, Length}
 use Rattle.names.specs.Utf8.{inside}
 use Rattle.names.specs.Decomposition.{canonical}
 use Rattle.names.specs.Letters.{Letter, markNumber, plainNumber, letterNumber, letterBy, letterOf, digit, digitBy, bare}
 use Rattle.names.specs.Reading.{fault, marked, lettered, stepped}
-use Rattle.names.specs.Progress.{bareDigit, laid, takesMark, Holds, Ready, Follows}
+use Rattle.names.specs.Progress.{bareDigit, laid, takesMark, Holds, Ready, Follows, refusedBy}
 use Rattle.names.proofs.Tables.{Sound, table-facts, mark-most, number-most}
 
 pub laid-length : (xs : List Letter) → length (laid xs) ≡ 24
@@ -64,7 +65,7 @@ push-mark (x ∷ xs) s c p m h e l t =
       plain = grind (arith, tells);
     }
 
-pub push-loose : (xs : List Letter) (s : Row) (c p m : ℕ) → Holds xs s → m ≡ markNumber c → 0 < m → s .plain ≡ false → Follows (stepped xs c p) (Err (fault LooseMark p))
+push-loose : (xs : List Letter) (s : Row) (c p m : ℕ) → Holds xs s → m ≡ markNumber c → 0 < m → s .plain ≡ false → Follows (stepped xs c p) (Err (fault LooseMark p))
 push-loose [] s c p m h e l t = follows-err _ _ (by-mark [] c p (omega arith))
 push-loose (x ∷ xs) s c p m h e l t =
     let b : bare x ≡ false = sym (h .plain) ∙ t in
@@ -101,7 +102,7 @@ unlisted-by : (o : Option Letter) (xs : List Letter) (p : ℕ) → ((x : Letter)
 unlisted-by None xs p g e = refl
 unlisted-by (Some x) xs p g e = absurd (omega (arith, g x refl .number))
 
-pub push-unlisted : (xs : List Letter) (s : Row) (c p m d : ℕ) → m ≡ markNumber c → m ≤ 0 → d ≡ digitBy (letterOf c) → d ≡ 0 → Follows (stepped xs c p) (Err (fault NotListed p))
+push-unlisted : (xs : List Letter) (s : Row) (c p m d : ℕ) → m ≡ markNumber c → m ≤ 0 → d ≡ digitBy (letterOf c) → d ≡ 0 → Follows (stepped xs c p) (Err (fault NotListed p))
 push-unlisted xs s c p m d e l q z =
     follows-err _ _ (by-letter xs c p (omega arith) ∙ unlisted-by (letterOf c) xs p (letter-good c) (sym q ∙ z))
 
@@ -109,9 +110,33 @@ long-by : (o : Option Letter) (xs : List Letter) (p : ℕ) → length xs ≡ 24 
 long-by None xs p n z = absurd (z refl)
 long-by (Some x) xs p n z = let t : ltb (length xs) 24 ≡ false = grind (arith, tells) in rw t
 
-pub push-long : (xs : List Letter) (s : Row) (c p m d : ℕ) → Holds xs s → m ≡ markNumber c → m ≤ 0 → d ≡ digitBy (letterOf c) → (d ≡ 0 → ⊥) → 24 ≤ s .count → Follows (stepped xs c p) (Err (fault Length p))
+push-long : (xs : List Letter) (s : Row) (c p m d : ℕ) → Holds xs s → m ≡ markNumber c → m ≤ 0 → d ≡ digitBy (letterOf c) → (d ≡ 0 → ⊥) → 24 ≤ s .count → Follows (stepped xs c p) (Err (fault Length p))
 push-long xs s c p m d h e l q z k =
     follows-err _ _ (by-letter xs c p (omega arith) ∙ long-by (letterOf c) xs p (omega (arith, h .count, h .most)) (λ w. z (q ∙ w)))
+
+abbrev reasonIn : Option Reason → Reason
+reasonIn None = Length
+reasonIn (Some r) = r
+
+as-refused : (o : Result (List Letter) Fault) (r t : Reason) (p : ℕ) → Some r ≡ Some t → Follows o (Err (fault t p)) → Follows o (Err (fault r p))
+as-refused o r t p e h = subst (λ (v : Reason). Follows o (Err (fault v p))) (sym (ap reasonIn e)) h
+
+refused-cases : (tm tp td tc : Bool) (xs : List Letter) (s : Row) (c p m d : ℕ) (r : Reason) → ltb 0 m ≡ tm → s .plain ≡ tp → eqb d 0 ≡ td → ltb (s .count) 24 ≡ tc → Holds xs s → m ≡ markNumber c → d ≡ digitBy (letterOf c) → Some r ≡ cond tm (cond tp None (Some LooseMark)) (cond td (Some NotListed) (cond tc None (Some Length))) → Follows (stepped xs c p) (Err (fault r p))
+refused-cases true true td tc xs s c p m d r x y z w h e q f = let n : _≡_ {A = ℕ} 0 1 = cc in absurd (omega arith)
+refused-cases true false td tc xs s c p m d r x y z w h e q f = as-refused _ r LooseMark p f (push-loose xs s c p m h e (grind (arith, tells)) y)
+refused-cases false tp true tc xs s c p m d r x y z w h e q f = as-refused _ r NotListed p f (push-unlisted xs s c p m d e (grind (arith, tells)) q (grind (arith, tells)))
+refused-cases false tp false true xs s c p m d r x y z w h e q f = let n : _≡_ {A = ℕ} 0 1 = cc in absurd (omega arith)
+refused-cases false tp false false xs s c p m d r x y z w h e q f = as-refused _ r Length p f (push-long xs s c p m d h e (grind (arith, tells)) q (grind (arith, tells)) (grind (arith, tells)))
+
+pub push-refused : (xs : List Letter) (s : Row) (c p m d : ℕ) (r : Reason) → Holds xs s → m ≡ markNumber c → d ≡ digitBy (letterOf c) → Some r ≡ refusedBy (s .plain) (s .count) m d → Follows (stepped xs c p) (Err (fault r p))
+push-refused xs s c p m d r = refused-cases (ltb 0 m) (s .plain) (eqb d 0) (ltb (s .count) 24) xs s c p m d r refl refl refl refl
+
+-- what is known where nothing was refused
+pub mark-allowed : (plain : Bool) (count m d : ℕ) → None ≡ refusedBy plain count m d → 0 < m → plain ≡ true
+mark-allowed plain count m d e h = grind (arith, tells)
+
+pub letter-allowed : (plain : Bool) (count m d : ℕ) → None ≡ refusedBy plain count m d → m ≤ 0 → (d ≡ 0 → ⊥) × (count < 24)
+letter-allowed plain count m d e h = (λ z. grind (arith, tells), grind (arith, tells))
 
 letter-by : (o : Option Letter) (xs : List Letter) (s : Row) (p d : ℕ) (b : Bool) → ((x : Letter) → o ≡ Some x → Good x) → Holds xs s → d ≡ digitBy o → (d ≡ 0 → ⊥) → s .count < 24 → b ≡ bareDigit d → Follows (lettered xs o p) (Ok record { digits = set (s .digits) (s .count) d; count = s .count + 1; plain = b })
 unfolding laid
@@ -146,6 +171,3 @@ last-by (x ∷ xs) s h t =
 
 pub last-plain : (s : Row) → Ready s → s .plain ≡ true → (1 ≤ s .count) × (s .count ≤ 24) × (getD (s .digits) (s .count - 1) 0 ≤ 784)
 last-plain s r t = last-by (r .0) s (r .1) t
-
-pub count-most : (s : Row) → Ready s → s .count ≤ 24
-count-most s r = omega (arith, r .1 .count, r .1 .most)

@@ -110,6 +110,9 @@ table-gives t c r h k = let e : 192 + (c - 192) ≡ c = omega arith in rw e at (
 pub number-outside : (c : ℕ) → 128 ≤ c → inside 192 383 c ≡ false → letterNumber c ≡ 0
 number-outside c h o = grind (arith, tells)
 
+pub digit-none : (c : ℕ) → 128 ≤ c → inside 192 383 c ≡ false → 0 ≡ digitBy (letterOf c)
+digit-none c h o = sym (digit-outside c o ∙ ap (λ n. n * 14) (number-outside c h o))
+
 pub mark-is : (c : ℕ) → placeIn 1 marks c ≡ markNumber c
 unfolding markNumber
 mark-is c = refl

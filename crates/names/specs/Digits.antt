@@ -1,6 +1,6 @@
 -- A name as a key: its 24 digits, its comparison and its home.
 use mathlib.Core.List.{List, [], _∷_}
-use Prim.Native.Nat.{ℕ, zero, suc, _+_, _*_, _/_, _%_}
+use Prim.Native.Nat.{ℕ, zero, suc, _+_, _*_, _/_, _%_, min}
 use lib.ListN.{getD}
 use Rattle.std.specs.Orderings.{thenBy}
 use Rattle.std.specs.declared.cmp.Ordering.{Ordering}
@@ -30,3 +30,10 @@ nameOrder x y = byDigits (digitsOf x) (digitsOf y)
 -- the home goes by the first two digits, of 1,048,576 possible pairs
 unfoldable pub nameHome : Name → ℕ → ℕ
 nameHome x n = share 1048576 (getD (digitsOf x) 0 0 * 1024 + getD (digitsOf x) 1 0) n
+
+-- The same by the three words, as the code has them.
+abbrev pub byWords : Name → Name → Ordering
+byWords x y = thenBy (bySize (x .high) (y .high)) (thenBy (bySize (x .middle) (y .middle)) (bySize (x .low) (y .low)))
+
+abbrev pub firstTwo : Name → ℕ
+firstTwo x = min (x .high / 1152921504606846976) 1048575

@@ -3,13 +3,13 @@ ghost use mathlib.Core.Path.{_≡_};
 ghost use mathlib.Core.List.{List};
 ghost use Prim.Native.Nat.{_+_, _≤_};
 ghost use lib.ListN.{getD};
-ghost use Rattle.std.specs.Orderings.{Decides};
+ghost use Rattle.std.specs.Orderings.{isEq};
 ghost use Rattle.std.specs.declared.option.Option.the-variants.{Some};
 ghost use Rattle.names.specs.Letters.{Letter};
 ghost use Rattle.names.specs.Reading.{refusalNumber, stepped, wordAt, packed, reading};
-ghost use Rattle.names.specs.Digits.{nameOrder, nameHome};
+ghost use Rattle.names.specs.Digits.{nameOrder, nameHome, byWords, firstTwo};
 ghost use Rattle.names.specs.Law.{NameLaw};
-ghost use Rattle.names.specs.Progress.{Holds, Ready, Follows};
+ghost use Rattle.names.specs.Progress.{Holds, Ready, Follows, refusedBy};
 use keys::Key;
 use std::cmp::Ordering;
 
@@ -60,25 +60,39 @@ pub struct Name {
     low: u128,
 }
 
+impl Name {
+    // Digits from the first, eight at a time.
+    fn by_words(self, other: Name) -> Ordering
+        ensures { λ r. ⌜ r ≡ byWords self other ⌝ }
+    {
+        let rest = self.middle.cmp(&other.middle).then(self.low.cmp(&other.low));
+        self.high.cmp(&other.high).then(rest)
+    }
+
+    // The first two digits as one number: the highest twenty of eighty bits.
+    fn first_two(self) -> u128
+        ensures { λ r. ⌜ r ≡ firstTwo self ⌝ }
+    {
+        (self.high >> 60).min(1_048_575)
+    }
+}
+
 pub impl Key for Name as NameKey {
     ghost order = { nameOrder };
 
     ghost home = { nameHome };
 
     fn compare(self, other: Name) -> Ordering {
-        let rest = self.middle.cmp(&other.middle).then(self.low.cmp(&other.low));
-        self.high.cmp(&other.high).then(rest)
+        self.by_words(other)
     }
 
-    /// The first two digits are the highest twenty of eighty bits.
     fn home(self, n: usize) -> usize {
-        let first_two = (self.high >> 60).min(1_048_575);
-        (first_two * n as u128 / 1_048_576) as usize
+        (self.first_two() * n as u128 / 1_048_576) as usize
     }
 }
 
 pub impl PartialEq<Name> for Name as NamePartialEq {
-    ghost equals = { λ x y r. Decides r (x ≡ y) };
+    ghost equals = { λ x y r. r ≡ isEq (nameOrder x y) };
 
     fn eq(&self, other: &Name) -> bool {
         self.compare(*other).is_eq()
@@ -112,27 +126,36 @@ struct Row {
 }
 
 impl Row {
+    // Why a code point with this mark, or else with this digit, may not follow.
+    fn refusal(self, mark: u16, digit: u16) -> Option<Reason>
+        ensures { λ r. ⌜ r ≡ refusedBy (self .plain) (self .count) mark digit ⌝ }
+    {
+        if mark > 0 {
+            return if self.plain { None } else { Some(Reason::LooseMark) };
+        }
+        if digit == 0 {
+            return Some(Reason::NotListed);
+        }
+        if self.count >= 24 {
+            return Some(Reason::Length);
+        }
+        None
+    }
+
     // One more code point: a mark on the last letter, or a letter.
     fn push(self, c: u32, place: usize) -> Result<Row, Fault>
         requires { ⌜ Ready self ⌝ }
         ensures { λ r. ⌜ ((xs : List Letter) → Holds xs self → Follows (stepped xs c place) r) ⌝ }
     {
-        let mut digits = self.digits;
-        let count = self.count;
+        let Row { mut digits, count, plain: _ } = self;
         let mark = letters::mark_of(c);
+        let digit = letters::digit_of(c);
+        if let Some(reason) = self.refusal(mark, digit) {
+            return Err(Fault { reason, place });
+        }
         if mark > 0 {
-            if !self.plain {
-                return Err(Fault { reason: Reason::LooseMark, place });
-            }
             digits[count - 1] += mark;
             return Ok(Row { digits, count, plain: false });
-        }
-        let digit = letters::digit_of(c);
-        if digit == 0 {
-            return Err(Fault { reason: Reason::NotListed, place });
-        }
-        if count >= 24 {
-            return Err(Fault { reason: Reason::Length, place });
         }
         digits[count] = digit;
         Ok(Row { digits, count: count + 1, plain: letters::takes_mark(digit) })
