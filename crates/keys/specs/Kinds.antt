@@ -19,10 +19,10 @@ share limit k n = min k (limit - 1) * n / limit
 
 -- a type number is an unsigned 32-bit number
 abbrev pub typeOrder : TypeNumber → TypeNumber → Ordering
-typeOrder x y = bySize (x .number) (y .number)
+typeOrder x y = bySize (x .0) (y .0)
 
 abbrev pub typeHome : TypeNumber → ℕ → ℕ
-typeHome x n = share 4294967296 (x .number) n
+typeHome x n = share 4294967296 (x .0) n
 
 -- a tray is a number from 0 to 999; memory may hold a larger one, which no call makes
 abbrev pub trayOrder : Tray → Tray → Ordering

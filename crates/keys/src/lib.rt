@@ -26,25 +26,9 @@ pub trait Key: Copy {
         ensures { λ r. ⌜ r ≡ home self n ⌝ };
 }
 
-/// The number of a coin type.
-#[derive(Clone, Copy)]
-pub struct TypeNumber {
-    number: u32,
-}
-
-impl TypeNumber {
-    pub const fn new(number: u32) -> TypeNumber
-        ensures { λ r. ⌜ r ≡ record { number = number } ⌝ }
-    {
-        TypeNumber { number }
-    }
-
-    pub const fn number(self) -> u32
-        ensures { λ r. ⌜ r ≡ self .number ⌝ }
-    {
-        self.number
-    }
-}
+/// The number of a coin type: any 32-bit number.
+#[derive(Clone, Copy, PartialEq, Eq, Debug)]
+pub struct TypeNumber(pub u32);
 
 pub impl Key for TypeNumber as TypeNumberKey {
     ghost order = { typeOrder };
@@ -52,22 +36,22 @@ pub impl Key for TypeNumber as TypeNumberKey {
     ghost home = { typeHome };
 
     fn compare(self, other: TypeNumber) -> Ordering {
-        self.number.cmp(&other.number)
+        self.0.cmp(&other.0)
     }
 
     fn home(self, n: usize) -> usize {
-        (u128::from(self.number) * n as u128 / 4_294_967_296) as usize
+        (u128::from(self.0) * n as u128 / 4_294_967_296) as usize
     }
 }
 
 /// A tray of the coin cabinet, 0 to 999.
-#[derive(Clone, Copy)]
+#[derive(Clone, Copy, PartialEq, Eq, Debug)]
 pub struct Tray {
     number: u16,
 }
 
 /// The refusal of a tray number above 999.
-#[derive(Clone, Copy)]
+#[derive(Clone, Copy, PartialEq, Eq, Debug)]
 pub struct AboveLimit;
 
 impl AboveLimit {
@@ -94,7 +78,8 @@ impl Tray {
     pub const fn number(self) -> u16
         ensures { λ r. ⌜ r ≡ self .number ⌝ }
     {
-        self.number
+        let Tray { number } = self;
+        number
     }
 }
 

@@ -1,0 +1,9 @@
+pub mod Points
+pub mod Encodings
+pub mod Tables
+pub mod Rows
+pub mod Runs
+pub mod Spellings
+pub mod KeyLaws
+pub mod Packing
+pub mod Laws
