@@ -8,7 +8,7 @@ use native.Mathlib.Nat.{le-of-suc-le-suc, not-suc-le-zero}
 use native.Mathlib.Omega.{arith}
 use lib.ListN.{length, getD, set}
 use Rattle.protocol.specs.declared.Cell.{Cell}
-use Rattle.protocol.specs.Cells.{Content, empty, holds, content, content-at, marked-at, contents, marks, alter, alter-place}
+use Rattle.protocol.specs.Cells.{Content, empty, holds, nth, content, content-at, marked-at, contents, marks, alter, alter-place}
 use Rattle.protocol.proofs.Places.{contents-past, alter-past}
 
 module _ {K : Type 0} where
@@ -57,3 +57,8 @@ module _ {K : Type 0} where
   pub alter-edge : (f : Cell K → Cell K) (cs : List (Cell K)) (p : ℕ) → (p ≡ 0) ⊎ (length cs < p) → cs ≡ alter-place f p cs
   alter-edge f cs zero h = refl
   alter-edge f cs (suc i) h = sym (alter-past f i cs (⊎-elim (λ (e : suc i ≡ 0). absurd (omega arith)) (λ e. le-of-suc-le-suc e) h))
+
+pub nth-read : {A : Type 0} (xs : List A) (i : ℕ) (d : A) → i < length xs → d ≡ getD xs i d → nth xs i ≡ holds d
+nth-read [] i d h e = absurd (not-suc-le-zero h)
+nth-read (x ∷ xs) zero d h e = ap holds (sym e)
+nth-read (x ∷ xs) (suc i) d h e = nth-read xs i d (le-of-suc-le-suc h) e

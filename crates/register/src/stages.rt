@@ -1,6 +1,6 @@
 //! Stages: what a step reads, and what each stage makes of it.
 ghost use mathlib.Core.Path.{_≡_};
-ghost use mathlib.Core.Bool.{true};
+ghost use mathlib.Core.Bool.{true, _&&_};
 ghost use Prim.Native.Nat.{suc, _≤_, _<_, _+_};
 ghost use lib.Dec.{ltb};
 ghost use Rattle.protocol.specs.Cells.{cell};
@@ -315,15 +315,16 @@ fn at_give_back<K: Key>(cell: usize) -> Move<K>
 }
 
 impl<K: Key> Entry<K> {
-    /// What the present stage makes of what was read.
-    fn decide(self, seen: Reading<K>, h: usize, n: usize) -> Move<K>
+    /// Sets the stage to the next one, by the rule of the present one and by what was read, and tells the one act on the cells.
+    pub fn advance(&mut self, seen: Reading<K>, h: usize, n: usize) -> Act<K>
         requires home { ⌜ h ≤ 65536 ⌝ }
         requires few { ⌜ n ≤ 65536 ⌝ }
-        requires named { ⌜ names-cells n (self .stage) ≡ true ⌝ }
-        ensures { λ r. ⌜ r ≡ move-of (told (self .key) h n (self .stage) seen) ⌝ }
+        requires named { ⌜ names-cells n (now self .stage) ≡ true ⌝ }
+        ensures stage { λ _. ⌜ now (self .exit) ≡ record { key = now (self .entry) .key; stage = told (now (self .entry) .key) h n (now (self .entry) .stage) seen .next } ⌝ }
+        ensures act { λ r. ⌜ r ≡ told (now (self .entry) .key) h n (now (self .entry) .stage) seen .act ⌝ }
     {
         let key = self.key;
-        match self.stage {
+        let Move { next, act } = match self.stage {
             Stage::Idle => to(Stage::Idle),
             Stage::Home => at_home(key, h, seen.marked, seen.order),
             Stage::Look { at: _ } => at_look(h, seen.walk),
@@ -352,18 +353,7 @@ impl<K: Key> Entry<K> {
             } => release(n, left, Stage::ReleaseRight { right, answer }),
             Stage::ReleaseRight { right, answer } => release(n, right, Stage::Answered { answer }),
             Stage::Answered { answer } => to(Stage::Answered { answer }),
-        }
-    }
-
-    /// Sets the stage to the next one, by the rule of the present one and by what was read, and tells the one act on the cells.
-    pub fn advance(&mut self, seen: Reading<K>, h: usize, n: usize) -> Act<K>
-        requires home { ⌜ h ≤ 65536 ⌝ }
-        requires few { ⌜ n ≤ 65536 ⌝ }
-        requires named { ⌜ names-cells n (now self .stage) ≡ true ⌝ }
-        ensures stage { λ _. ⌜ now (self .exit) ≡ record { key = now (self .entry) .key; stage = told (now (self .entry) .key) h n (now (self .entry) .stage) seen .next } ⌝ }
-        ensures act { λ r. ⌜ r ≡ told (now (self .entry) .key) h n (now (self .entry) .stage) seen .act ⌝ }
-    {
-        let Move { next, act } = self.decide(seen, h, n);
+        };
         self.stage = next;
         act
     }
@@ -461,6 +451,13 @@ pub fn settle(stage: Stage, withdrawn: bool) -> Stage
         Stage::Answered { answer: _ } => Stage::Idle,
         _ => stage,
     }
+}
+
+/// Whether a station that comes to this stage is withdrawn: becoming idle ends the withdrawal.
+pub fn stays_withdrawn(withdrawn: bool, stage: Stage) -> bool
+    ensures { λ r. ⌜ r ≡ (withdrawn && busy stage) ⌝ }
+{
+    withdrawn && is_busy(stage)
 }
 
 /// What a step says that has led to this stage.
