@@ -26,10 +26,10 @@ module _ {K A : Type 0} (w : World K) where
   after-checks (Err e) f = (w, Err e)
   after-checks (Ok t) f = f t
 
-  pub by-refusal : (o : Out K A) (r : Result (Station K) Refusal) (f : Station K → Out K A) → o ≡ after-checks r f → (e : Refusal) → Err e ≡ r → (w, Err e) ≡ o
+  by-refusal : (o : Out K A) (r : Result (Station K) Refusal) (f : Station K → Out K A) → o ≡ after-checks r f → (e : Refusal) → Err e ≡ r → (w, Err e) ≡ o
   by-refusal o r f i e h = ap (λ x. after-checks x f) h ∙ sym i
 
-  pub by-record : (o : Out K A) (r : Result (Station K) Refusal) (f : Station K → Out K A) → o ≡ after-checks r f → (t : Station K) → Ok t ≡ r → f t ≡ o
+  by-record : (o : Out K A) (r : Result (Station K) Refusal) (f : Station K → Out K A) → o ≡ after-checks r f → (t : Station K) → Ok t ≡ r → f t ≡ o
   by-record o r f i t h = ap (λ x. after-checks x f) h ∙ sym i
 
   module _ (s : ℕ) (f : Station K → Out K A) where
@@ -72,43 +72,69 @@ module _ {K A : Type 0} (w : World K) where
   one-more g e f (Ok t) = test-last e t f (g t)
 
 module _ {K : Type 0} (n : ℕ) (w : World K) (s : ℕ) where
-  pub begin-is : (k : K) → beginning n w s k ≡ after-checks w (to-begin n (w .stations) s) (λ t. (put-record w s (fresh k), Ok (w .number, s)))
+  begin-is : (k : K) → beginning n w s k ≡ after-checks w (to-begin n (w .stations) s) (λ t. (put-record w s (fresh k), Ok (w .number, s)))
   unfolding beginning
   begin-is k =
       station-checks w s _ n ∙ one-more w (λ t. not (is-idle (t .stage))) NotIdle (λ t. (put-record w s (fresh k), Ok (w .number, s))) (admitted n true (w .stations) s)
 
-  pub collect-is : (number : ℕ)
+  collect-is : (number : ℕ)
       → collecting n w number s ≡ after-checks w (to-collect n (eqb number (w .number)) (w .stations) s) (λ t. collecting-at w s t (standing (t .stage)))
   unfolding collecting
   collect-is number =
       slip-checks w s _ n (eqb number (w .number))
       ∙ one-more w (λ t. t .withdrawn) NoEntry (λ t. collecting-at w s t (standing (t .stage))) (admitted n (eqb number (w .number)) (w .stations) s)
 
-  pub withdraw-is : (number : ℕ)
+  withdraw-is : (number : ℕ)
       → withdrawing n w number s ≡ after-checks w (to-withdraw n (eqb number (w .number)) (w .stations) s) (λ t. withdrawing-at w s t (holds-mark n (t .stage)))
   unfolding withdrawing
   withdraw-is number =
       slip-checks w s _ n (eqb number (w .number))
       ∙ one-more w (λ t. is-idle (t .stage) || t .withdrawn) NoEntry (λ t. withdrawing-at w s t (holds-mark n (t .stage))) (admitted n (eqb number (w .number)) (w .stations) s)
 
-  abbrev by-answer : Station K → Result Answer Refusal → Out K Answer
-  by-answer t (Err e) = (w, Err e)
-  by-answer t (Ok a) = (put-record w s (idled t), Ok a)
+  pub begin-refused : (k : K) (e : Refusal) → Err e ≡ to-begin n (w .stations) s → (w, Err e) ≡ beginning n w s k
+  begin-refused k e = by-refusal w (beginning n w s k) (to-begin n (w .stations) s) _ (begin-is k) e
 
-  answer-is : (t : Station K) (y : Standing) → by-answer t (answer-by y) ≡ collecting-at w s t y
-  answer-is t resting = refl
-  answer-is t homing = refl
-  answer-is t under-way = refl
-  answer-is t (done a) = refl
+  pub begun : (k : K) (t : Station K) → Ok t ≡ to-begin n (w .stations) s → (put-record w s (fresh k), Ok (w .number, s)) ≡ beginning n w s k
+  begun k t = by-record w (beginning n w s k) (to-begin n (w .stations) s) _ (begin-is k) t
 
-  pub answered : (t : Station K) (a : Answer) → Ok a ≡ answer-by (standing (t .stage)) → (put-record w s (idled t), Ok a) ≡ collecting-at w s t (standing (t .stage))
-  answered t a e = ap (by-answer t) e ∙ answer-is t (standing (t .stage))
+  module _ (number : ℕ) where
+    pub withdraw-refused : (e : Refusal) → Err e ≡ to-withdraw n (eqb number (w .number)) (w .stations) s → (w, Err e) ≡ withdrawing n w number s
+    withdraw-refused e = by-refusal w (withdrawing n w number s) (to-withdraw n (eqb number (w .number)) (w .stations) s) _ (withdraw-is number) e
 
-  pub unanswered : (t : Station K) (e : Refusal) → Err e ≡ answer-by (standing (t .stage)) → (w, Err e) ≡ collecting-at w s t (standing (t .stage))
-  unanswered t e h = ap (by-answer t) h ∙ answer-is t (standing (t .stage))
+    pub withdrawn : (t : Station K) → Ok t ≡ to-withdraw n (eqb number (w .number)) (w .stations) s → (b : Bool) → b ≡ holds-mark n (t .stage)
+        → withdrawing-at w s t b ≡ withdrawing n w number s
+    withdrawn t h b e =
+        ap (withdrawing-at w s t) e
+        ∙ by-record w (withdrawing n w number s) (to-withdraw n (eqb number (w .number)) (w .stations) s) _ (withdraw-is number) t h
+
+    pub collect-refused : (e : Refusal) → Err e ≡ to-collect n (eqb number (w .number)) (w .stations) s → (w, Err e) ≡ collecting n w number s
+    collect-refused e = by-refusal w (collecting n w number s) (to-collect n (eqb number (w .number)) (w .stations) s) _ (collect-is number) e
+
+    abbrev by-answer : Station K → Result Answer Refusal → Out K Answer
+    by-answer t (Err e) = (w, Err e)
+    by-answer t (Ok a) = (put-record w s (idled t), Ok a)
+
+    answer-is : (t : Station K) (y : Standing) → by-answer t (answer-by y) ≡ collecting-at w s t y
+    answer-is t resting = refl
+    answer-is t homing = refl
+    answer-is t under-way = refl
+    answer-is t (done a) = refl
+
+    collect-by : (t : Station K) → Ok t ≡ to-collect n (eqb number (w .number)) (w .stations) s → (r : Result Answer Refusal) → r ≡ answer-by (standing (t .stage))
+        → by-answer t r ≡ collecting n w number s
+    collect-by t h r e =
+        ap (by-answer t) e ∙ answer-is t (standing (t .stage))
+        ∙ by-record w (collecting n w number s) (to-collect n (eqb number (w .number)) (w .stations) s) _ (collect-is number) t h
+
+    module _ (t : Station K) (h : Ok t ≡ to-collect n (eqb number (w .number)) (w .stations) s) where
+      pub collected : (a : Answer) → Ok a ≡ answer-by (standing (t .stage)) → (put-record w s (idled t), Ok a) ≡ collecting n w number s
+      collected a e = collect-by t h (Ok a) e
+
+      pub not-collected : (e : Refusal) → Err e ≡ answer-by (standing (t .stage)) → (w, Err e) ≡ collecting n w number s
+      not-collected e z = collect-by t h (Err e) z
 
 module _ {K : Type 0} {N : ℕ} (κ : Kind K N) (w : World K) (s : ℕ) where
-  pub step-is : stepping κ w s ≡ after-checks w (to-step N (w .stations) s) (λ t. stepping-by w s t (decision κ (w .cells) (t .key) (t .stage)))
+  step-is : stepping κ w s ≡ after-checks w (to-step N (w .stations) s) (λ t. stepping-by w s t (decision κ (w .cells) (t .key) (t .stage)))
   unfolding stepping
   step-is =
       station-checks w s _ N
@@ -116,15 +142,20 @@ module _ {K : Type 0} {N : ℕ} (κ : Kind K N) (w : World K) (s : ℕ) where
       ∙ one-more w (λ t. not (names-cells N (t .stage))) NoCell (λ t. stepping-by w s t (decision κ (w .cells) (t .key) (t .stage)))
           (unless (λ t. not (busy (t .stage))) NoEntry (admitted N true (w .stations) s))
 
+  pub step-refused : (e : Refusal) → Err e ≡ to-step N (w .stations) s → (w, Err e) ≡ stepping κ w s
+  step-refused e = by-refusal w (stepping κ w s) (to-step N (w .stations) s) _ step-is e
+
   -- what the code has put together is the step
-  pub stepped : (t : Station K) (cs : List (Cell K)) (x y : Stage) (b : Bool) (p : Progress)
+  pub stepped : (t : Station K) → Ok t ≡ to-step N (w .stations) s → (cs : List (Cell K)) (x y : Stage) (b : Bool) (p : Progress)
       → cs ≡ cells-after (decision κ (w .cells) (t .key) (t .stage) .act) (w .cells) → x ≡ decision κ (w .cells) (t .key) (t .stage) .next
       → y ≡ settled (t .withdrawn) x → b ≡ stepped-record t y .withdrawn → p ≡ says y
-      → _≡_ {A = Out K Progress} (world (w .number) cs (set (w .stations) s (record { key = t .key; stage = y; withdrawn = b })), Ok p)
-          (stepping-by w s t (decision κ (w .cells) (t .key) (t .stage)))
-  stepped t cs x y b p e1 e2 e3 e4 e5 =
+      → _≡_ {A = Out K Progress} (world (w .number) cs (set (w .stations) s (record { key = t .key; stage = y; withdrawn = b })), Ok p) (stepping κ w s)
+  stepped t h cs x y b p e1 e2 e3 e4 e5 =
       let m = decision κ (w .cells) (t .key) (t .stage) in
       let z : y ≡ settled (t .withdrawn) (m .next) = e3 ∙ ap (settled (t .withdrawn)) e2 in
       let u : b ≡ stepped-record t (settled (t .withdrawn) (m .next)) .withdrawn = e4 ∙ ap (λ v. stepped-record t v .withdrawn) z in
       let v : p ≡ says (settled (t .withdrawn) (m .next)) = e5 ∙ ap says z in
-      λ i. (record { number = w .number; cells = e1 i; stations = set (w .stations) s (record { key = t .key; stage = z i; withdrawn = u i }) }, Ok (v i))
+      let made : Out K Progress = stepping-by w s t m in
+      let put-together : _≡_ {A = Out K Progress} (world (w .number) cs (set (w .stations) s (record { key = t .key; stage = y; withdrawn = b })), Ok p) made =
+          λ i. (record { number = w .number; cells = e1 i; stations = set (w .stations) s (record { key = t .key; stage = z i; withdrawn = u i }) }, Ok (v i)) in
+      put-together ∙ by-record w (stepping κ w s) (to-step N (w .stations) s) _ step-is t h

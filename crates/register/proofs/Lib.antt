@@ -1,3 +1,5 @@
 pub mod Places
 pub mod Told
 pub mod Checked
+pub mod Loops
+pub mod Going

@@ -1,9 +1,9 @@
 -- The code reads and writes cell p - 1 where the rules speak of place p.
 use mathlib.Core.Path.{_≡_, refl, sym, ap, _∙_}
 use mathlib.Core.Logic.{_⊎_, inl, inr, ⊎-elim}
-use mathlib.Core.Bool.{false}
+use mathlib.Core.Bool.{Bool, true, false, cond}
 use mathlib.Core.List.{List, [], _∷_}
-use Prim.Native.Nat.{ℕ, zero, suc, _-_, _≤_, _<_}
+use Prim.Native.Nat.{ℕ, zero, suc, _-_, _≤_, suc-le-suc, _<_}
 use native.Mathlib.Nat.{le-of-suc-le-suc, not-suc-le-zero}
 use native.Mathlib.Omega.{arith}
 use lib.ListN.{length, getD, set}
@@ -46,6 +46,11 @@ module _ {K : Type 0} where
 
   pub contents-edge : (cs : List (Cell K)) (p : ℕ) → (p ≡ 0) ⊎ ((p ≡ 0 → ⊥) × (length cs < p)) → empty ≡ contents cs p
   contents-edge cs p h = sym (⊎-elim (λ e. ap (contents cs) e) (λ e. contents-past cs p (e .1)) h)
+
+  -- from the number of cells on there is no key
+  pub none-past : (cs : List (Cell K)) (i : ℕ) (b : Bool) → length cs ≤ i → empty ≡ cond b empty (content-at cs i)
+  none-past cs i true h = refl
+  none-past cs i false h = sym (contents-past cs (suc i) (suc-le-suc h))
 
   marks-past : (cs : List (Cell K)) (p : ℕ) → length cs < p → marks cs p ≡ false
   marks-past cs zero h = refl

@@ -4,14 +4,17 @@ ghost use mathlib.Core.List.{List};
 ghost use Prim.Native.Nat.{ℕ};
 ghost use lib.ListN.{length};
 ghost use Rattle.protocol.specs.declared.Cell.{Cell as CellOf};
+ghost use Rattle.protocol.specs.declared.Station.{Station as StationOf};
 ghost use Rattle.protocol.specs.Step.{kind-over};
-ghost use Rattle.protocol.specs.Calls.{fresh, idled, leaving, beginning, collecting, withdrawing, stepping};
+ghost use Rattle.protocol.specs.Calls.{fresh, idled, leaving, beginning, collecting, withdrawing, stepping, whole-entry, question};
 ghost use Rattle.register.specs.Memory.{world, hands-out, hands-back};
+use crate::cells::held_at;
 use crate::checks::answer_at;
 use crate::checks::to_begin;
 use crate::checks::to_collect;
 use crate::checks::to_step;
 use crate::checks::to_withdraw;
+use crate::checks::wrong_size;
 use crate::slips::Refused;
 use crate::slips::Slip;
 use crate::stages::Entry;
@@ -30,7 +33,7 @@ use protocol::Stage;
 use protocol::Station;
 
 /// A station's record once it is idle: it keeps its last key.
-fn rested<K: Key>(t: Station<K>) -> Station<K>
+pub fn rested<K: Key>(t: Station<K>) -> Station<K>
     ensures { λ r. ⌜ r ≡ idled t ⌝ }
 {
     Station {
@@ -164,5 +167,41 @@ pub fn step<K: Key>(
             };
             Ok(progress(stage))
         }
+    }
+}
+
+/// A whole entry: a fresh station's steps, until one stays at home, returns to it or is answered.
+pub fn enter<K: Key>(cells: &mut [Cell<K>], key: K) -> Result<Answer, Refusal>
+    ensures { λ r. ⌜ ((number : ℕ) (ts : List (StationOf K)) → (world number (now (cells .exit)) ts, r) ≡ whole-entry (kind-over order home (length (now (cells .entry)))) (world number (now (cells .entry)) ts) key) ⌝ }
+{
+    if wrong_size(cells.len()) {
+        return Err(Refusal::WrongSize);
+    }
+    let mut fresh = Entry {
+        key,
+        stage: Stage::Home,
+    };
+    loop {
+        turn(cells, &mut fresh);
+        match fresh.stage {
+            Stage::Home => return Err(Refusal::Barred),
+            Stage::Answered { answer } => return Ok(answer),
+            _ => {}
+        }
+    }
+}
+
+/// The question: the key of an occupied cell. Nothing changes.
+pub fn key_at<K: Key>(cells: &mut [Cell<K>], i: usize) -> Option<K>
+    ensures value { λ r. ⌜ ((number : ℕ) (ts : List (StationOf K)) → r ≡ question (world number (now (cells .entry)) ts) i) ⌝ }
+    ensures same { λ _. ⌜ now (cells .exit) ≡ now (cells .entry) ⌝ }
+{
+    if wrong_size(cells.len()) {
+        return None;
+    }
+    if i < cells.len() {
+        held_at(cells, i + 1)
+    } else {
+        None
     }
 }

@@ -1,19 +1,20 @@
-use mathlib.Core.Path.{_≡_, ap, _∙_}
+use mathlib.Core.Path.{ap, _∙_}
 use lib.ListN.{set}
 use Rattle.protocol.specs.Calls.{Ok}
 use Rattle.register.specs.Memory.{world, hands-out}
-use Rattle.register.proofs.Checked.{by-refusal, by-record, begin-is}
+use Rattle.register.proofs.Checked.{begin-refused, begun}
 use Rattle.register.proofs.calls.begin.Needs as need
 
 pub returns-in-Err : need.returns-in-Err
 returns-in-Err g c = λ cs.
-    let w = world (c .args .number) cs (c .args .stations .now) in
-    ap hands-out (by-refusal w _ _ _ (begin-is (c .args .n) w (c .args .s) (c .args .key)) (c .in-Err .refusal) (c .in-Err .ensures tt .value))
+    ap hands-out
+      (begin-refused (c .args .n) (world (c .args .number) cs (c .args .stations .now)) (c .args .s) (c .args .key) (c .in-Err .refusal)
+         (c .in-Err .ensures tt .value))
 
 pub returns-in-Ok : need.returns-in-Ok
 returns-in-Ok g c = λ cs.
-    let w = world (c .args .number) cs (c .args .stations .now) in
     ap
       (λ t. (world (c .args .number) cs (set (c .args .stations .now) (c .args .s) t), Ok record { register = c .args .number; station = c .args .s }))
       (c .started .ensures)
-    ∙ ap hands-out (by-record w _ _ _ (begin-is (c .args .n) w (c .args .s) (c .args .key)) (c .in-Ok .-t) (c .in-Ok .ensures tt .value))
+    ∙ ap hands-out
+        (begun (c .args .n) (world (c .args .number) cs (c .args .stations .now)) (c .args .s) (c .args .key) (c .in-Ok .-t) (c .in-Ok .ensures tt .value))
