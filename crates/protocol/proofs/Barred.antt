@@ -117,7 +117,7 @@ module _ {K : Type 0} {N : ℕ} (κ : Lawful K N) (k : K) (cs₀ : List (Cell K)
     quiet-step (GiveBack g) q = absurd q
     quiet-step (Check l r p) q =
         check-quiet l r (cell N l) (cell N r)
-          (is-after (versus (κ .kind) k (contents cs (κ .kind .place k)))) (walk-at (κ .kind .place k) p (versus (κ .kind) k (contents cs p)))
+        (is-after (versus (κ .kind) k (contents cs (κ .kind .place k)))) (walk-at (κ .kind .place k) p (versus (κ .kind) k (contents cs p)))
     quiet-step (Shift d l r g) q = shift-quiet d l r g (contents cs (beside d g))
     quiet-step (ReleaseLeft l r a) q = release-quiet l (cell N l) (ReleaseRight r a) (λ _. tt)
     quiet-step (ReleaseRight r a) q = release-quiet r (cell N r) (Answered a) (λ _. tt)
@@ -130,7 +130,7 @@ module _ {K : Type 0} {N : ℕ} (κ : Lawful K N) (k : K) (cs₀ : List (Cell K)
       let m = decision (κ .kind) cs k x in
       let q′ = quiet-step cs x q in
       by-standing (cells-after (m .act) cs, m .next) (alone (κ .kind) n k (cells-after (m .act) cs) (m .next))
-        (standing (m .next)) q′ (alone-quiet n (cells-after (m .act) cs) (m .next) q′)
+      (standing (m .next)) q′ (alone-quiet n (cells-after (m .act) cs) (m .next) q′)
     where
       by-standing : (a b : List (Cell K) × Stage) (y : Standing) → Quiet (a .0) (a .1) → Quiet (b .0) (b .1)
           → Quiet (ends-by y a b .0) (ends-by y a b .1)
@@ -150,6 +150,7 @@ module _ {K : Type 0} {N : ℕ} (κ : Lawful K N) (w : World K) (size : length (
     where
       o : List (Cell K) × Stage
       o = alone (κ .kind) (enough N) k (w .cells) Home
+
       by-end : Ended-stage (o .1) → whole-answer (standing (o .1)) ≡ Err Barred → whole-entry-by w o .0 ≡ w
       by-end (inl h) e =
           let q : o .0 ≡ w .cells = subst (Quiet κ k (w .cells) (o .0)) h (alone-quiet κ k (w .cells) (enough N) (w .cells) Home refl) in

@@ -45,8 +45,8 @@ cell-parts N p e = grind arith
 pub no-cell : (N p : ℕ) → cell N p ≡ false → (p ≡ 0) ⊎ (N < p)
 no-cell N p e =
     ⊎-elim
-      (λ (a : 0 < p). inr (⊎-elim (λ b. b) (λ (b : p ≤ N). absurd (both-ways (cell N p) e (grind arith))) (cases-lt N p)))
-      (λ a. inl (omega arith)) (cases-lt 0 p)
+    (λ (a : 0 < p). inr (⊎-elim (λ b. b) (λ (b : p ≤ N). absurd (both-ways (cell N p) e (grind arith))) (cases-lt N p)))
+    (λ a. inl (omega arith)) (cases-lt 0 p)
 
 -- a release of p where only p or both are held
 pub off-one : (N l q : ℕ) → l ≢ q → (eqb q l && cell N q) ≡ false

@@ -84,7 +84,12 @@ module _ {K : Type 0} {N : ℕ} (κ : Lawful K N) {T : ℕ → Content K} {M : �
           record { l = l; r = r; closed-region = closed-left t l r g e; some-cell = inr (good-at t (Shift Leftward l r g) e .cell-r); l-p = h .0; p-r = h .1 }
       go (Shift Rightward l r g) e h =
           record {
-            l = l; r = r; closed-region = closed-right t l r g e; some-cell = inl (good-at t (Shift Rightward l r g) e .cell-l); l-p = h .0; p-r = h .1;
+            l = l;
+            r = r;
+            closed-region = closed-right t l r g e;
+            some-cell = inl (good-at t (Shift Rightward l r g) e .cell-l);
+            l-p = h .0;
+            p-r = h .1;
           }
       go (ReleaseLeft l r a) e h = absurd h
       go (ReleaseRight r a) e h = absurd h
@@ -114,27 +119,27 @@ module _ {K : Type 0} {N : ℕ} (κ : Lawful K N) {T : ℕ → Content K} {M : �
   pub outside : (s t l r p : ℕ) → s ≢ t → Closed t l r → O p ≡ by s → 0 < p → p ≤ N → l ≤ p → p ≤ r → ⊥
   outside s t l r p n f o a b lp pr =
       ⊎-elim (λ (e : l ≡ p). n (by-inj o (ap O (sym e) ∙ f .own-l (omega arith))))
-        (λ x. ⊎-elim (λ (e : r ≡ p). n (by-inj o (ap O (sym e) ∙ f .own-r (omega arith))))
-          (λ y. both-ways (M p) (f .region .solid p (omega arith) (omega arith) .0) (marked-by κ c p s o))
-          (cases-eq r p))
-        (cases-eq l p)
+      (λ x. ⊎-elim (λ (e : r ≡ p). n (by-inj o (ap O (sym e) ∙ f .own-r (omega arith))))
+      (λ y. both-ways (M p) (f .region .solid p (omega arith) (omega arith) .0) (marked-by κ c p s o))
+      (cases-eq r p))
+      (cases-eq l p)
 
   -- nor is an empty cell without a mark
   pub clear : (t l r p : ℕ) → Closed t l r → T p ≡ empty → M p ≡ false → 0 < p → p ≤ N → l ≤ p → p ≤ r → ⊥
   clear t l r p f em um a b lp pr =
       ⊎-elim (λ (e : l ≡ p). both-ways (M p) um (marked-by κ c p t (ap O (sym e) ∙ f .own-l (omega arith))))
-        (λ x. ⊎-elim (λ (e : r ≡ p). both-ways (M p) um (marked-by κ c p t (ap O (sym e) ∙ f .own-r (omega arith))))
-          (λ y. not-both em (f .region .solid p (omega arith) (omega arith) .1))
-          (cases-eq r p))
-        (cases-eq l p)
+      (λ x. ⊎-elim (λ (e : r ≡ p). both-ways (M p) um (marked-by κ c p t (ap O (sym e) ∙ f .own-r (omega arith))))
+      (λ y. not-both em (f .region .solid p (omega arith) (omega arith) .1))
+      (cases-eq r p))
+      (cases-eq l p)
 
   -- a boundary of s is an edge, or off the region of t
   off-l : (s t l r l′ r′ : ℕ) → s ≢ t → Closed s l r → Closed t l′ r′ → (l ≡ 0) ⊎ ((l < l′) ⊎ (r′ < l))
   off-l s t l r l′ r′ n f g =
       let a = f .region .l-h in let b = κ .place-high (ky s) in
       ⊎-elim
-        (λ (z : 0 < l). inr (off-interval l l′ r′ (outside s t l′ r′ l n g (f .own-l z) z (omega arith))))
-        (λ z. inl (omega arith)) (cases-lt 0 l)
+      (λ (z : 0 < l). inr (off-interval l l′ r′ (outside s t l′ r′ l n g (f .own-l z) z (omega arith))))
+      (λ z. inl (omega arith)) (cases-lt 0 l)
 
   off-r : (s t l r l′ r′ : ℕ) → s ≢ t → Closed s l r → Closed t l′ r′ → (N < r) ⊎ ((r < l′) ⊎ (r′ < r))
   off-r s t l r l′ r′ n f g =
@@ -144,12 +149,12 @@ module _ {K : Type 0} {N : ℕ} (κ : Lawful K N) {T : ℕ → Content K} {M : �
   pub apart : (s t l r l′ r′ p : ℕ) → s ≢ t → Closed s l r → Closed t l′ r′ → (0 < l′) ⊎ (r′ ≤ N) → l ≤ p → p ≤ r → l′ ≤ p → p ≤ r′ → ⊥
   apart s t l r l′ r′ p n f g d a b a′ b′ =
       apart-by N p l r l′ r′ (off-l s t l r l′ r′ n f g) (off-r s t l r l′ r′ n f g)
-        (off-l t s l′ r′ l r (λ e. n (sym e)) g f) (off-r t s l′ r′ l r (λ e. n (sym e)) g f)
-        d (f .region .top) (g .region .top) a b a′ b′
+      (off-l t s l′ r′ l r (λ e. n (sym e)) g f) (off-r t s l′ r′ l r (λ e. n (sym e)) g f)
+      d (f .region .top) (g .region .top) a b a′ b′
 
   -- what another relies on is off the region of a station that shifts
   pub keeps-off : (s t l r p : ℕ) → s ≢ t → Closed s l r → (0 < l) ⊎ (r ≤ N) → Keeps (st t) p → l ≤ p → p ≤ r → ((0 < p) → p ≤ N → ⊥) ⊎ ⊥
   keeps-off s t l r p n f d k a b =
       ⊎-elim (λ o. inl (λ z y. outside t s l r p (λ e. n (sym e)) f (o z y) z y a b))
-        (λ g. inr (apart t s (g .0) (g .1) l r p (λ e. n (sym e)) (g .2) f d (g .3) (g .4) a b))
-        (relied t p k)
+      (λ g. inr (apart t s (g .0) (g .1) l r p (λ e. n (sym e)) (g .2) f d (g .3) (g .4) a b))
+      (relied t p k)

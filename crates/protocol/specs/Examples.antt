@@ -66,6 +66,11 @@ unfoldable pub sayings : World Tray → ℕ → ℕ → List (Result Progress Re
 sayings w s zero = []
 sayings w s (suc n) = turned trayOrder trayHome w (step s) .1 ∷ sayings (does w (step s)) s n
 
+-- so many times the same, and then the rest
+abbrev pub times : {A : Type 0} → ℕ → A → List A → List A
+times zero a rest = rest
+times (suc n) a rest = a ∷ times n a rest
+
 -- the method for one worker on n empty cells: what it leaves at the places from p on, and what it answers
 unfoldable pub worked : ℕ → (ℕ → Content Tray) → List ℕ → ℕ → Content Tray
 worked n S [] = S
@@ -105,9 +110,9 @@ wrong-record = record { number = 5; cells = old-cells 3; stations = record { key
 pub record Examples : Type 0 where
   -- ten cells and eight trays, by one worker and by whole entries
   pub ten-worker : places (worked 10 no-keys (145 ∷ 293 ∷ 297 ∷ 458 ∷ 553 ∷ 526 ∷ 841 ∷ 931 ∷ [])) 1 10
-    ≡ (holds 145 ∷ holds 293 ∷ holds 297 ∷ empty ∷ holds 458 ∷ holds 526 ∷ holds 553 ∷ empty ∷ holds 841 ∷ holds 931 ∷ [])
+      ≡ (holds 145 ∷ holds 293 ∷ holds 297 ∷ empty ∷ holds 458 ∷ holds 526 ∷ holds 553 ∷ empty ∷ holds 841 ∷ holds 931 ∷ [])
   pub ten : row (entering (register 10) (145 ∷ 293 ∷ 297 ∷ 458 ∷ 553 ∷ 526 ∷ 841 ∷ 931 ∷ []))
-    ≡ (holds 145 ∷ holds 293 ∷ holds 297 ∷ empty ∷ holds 458 ∷ holds 526 ∷ holds 553 ∷ empty ∷ holds 841 ∷ holds 931 ∷ [])
+      ≡ (holds 145 ∷ holds 293 ∷ holds 297 ∷ empty ∷ holds 458 ∷ holds 526 ∷ holds 553 ∷ empty ∷ holds 841 ∷ holds 931 ∷ [])
   -- two cells: two trays fill them, a third finds them full, and the second is found again
   pub two-worker : worker-answers 2 no-keys (100 ∷ 200 ∷ 300 ∷ 200 ∷ []) ≡ (Inserted ∷ Inserted ∷ Full ∷ Found ∷ [])
   pub two : answers (register 2) (100 ∷ 200 ∷ 300 ∷ 200 ∷ []) ≡ (Ok Inserted ∷ Ok Inserted ∷ Ok Full ∷ Ok Found ∷ [])
@@ -117,8 +122,7 @@ pub record Examples : Type 0 where
   pub three-2 : row (entering (register 3) (500 ∷ 400 ∷ [])) ≡ (empty ∷ holds 400 ∷ holds 500 ∷ [])
   pub three-3 : row (entering (register 3) (500 ∷ 400 ∷ 450 ∷ [])) ≡ (holds 400 ∷ holds 450 ∷ holds 500 ∷ [])
   -- three cells, 500 held: a station alone enters 400 in 12 steps, and no 13th is accepted
-  pub twelve : sayings begun-400 0 13
-    ≡ (Ok progress.GoesOn ∷ Ok progress.GoesOn ∷ Ok progress.GoesOn ∷ Ok progress.GoesOn ∷ Ok progress.GoesOn ∷ Ok progress.GoesOn ∷ Ok progress.GoesOn ∷ Ok progress.GoesOn ∷ Ok progress.GoesOn ∷ Ok progress.GoesOn ∷ Ok progress.GoesOn ∷ Ok progress.Answered ∷ Err NoEntry ∷ [])
+  pub twelve : sayings begun-400 0 13 ≡ times 11 (Ok progress.GoesOn) (Ok progress.Answered ∷ Err NoEntry ∷ [])
   pub twelve-collected : turned trayOrder trayHome (steps begun-400 0 12) (collect 5 0) .1 ≡ Ok Inserted
   pub twelve-cells : row (steps begun-400 0 12) ≡ (empty ∷ holds 400 ∷ holds 500 ∷ [])
   -- after its sixth step, 100 at another station stays at home
@@ -126,7 +130,7 @@ pub record Examples : Type 0 where
   pub home-stays : nth (does begun-100 (step 1) .stations) 1 ≡ holds (record { key = tray 100; stage = Home; withdrawn = false })
   -- withdrawn then, the station goes on, and becomes idle where it would be answered; its key is new all the same
   pub withdrawn-said : turned trayOrder trayHome (steps begun-400 0 6) (withdraw 5 0) .1 ≡ Ok departure.GoesOn
-  pub withdrawn-steps : sayings withdrawn-400 0 6 ≡ (Ok progress.GoesOn ∷ Ok progress.GoesOn ∷ Ok progress.GoesOn ∷ Ok progress.GoesOn ∷ Ok progress.GoesOn ∷ Ok progress.Idle ∷ [])
+  pub withdrawn-steps : sayings withdrawn-400 0 6 ≡ times 5 (Ok progress.GoesOn) (Ok progress.Idle ∷ [])
   pub withdrawn-cells : row (steps withdrawn-400 0 6) ≡ (empty ∷ holds 400 ∷ holds 500 ∷ [])
   -- withdrawn with the right boundary lost, it gives the left one back, and becomes idle where it would return to home
   pub overtaken-steps : sayings overtaken-400 0 3 ≡ (Ok progress.GoesOn ∷ Ok progress.Idle ∷ Err NoEntry ∷ [])
