@@ -13,7 +13,7 @@ use Rattle.protocol.specs.Refusals.{numberOf}
 use Rattle.protocol.specs.Cells.{Content, empty, holds, cell, updated, nth, contents, marks}
 use Rattle.protocol.specs.Stages.{Stage, Idle, Answered, Standing, resting, homing, under-way, done, standing, busy, is-idle, settled, held-by, holds-mark, names-cells}
 use Rattle.protocol.specs.Step.{Effect, nothing, Decision}
-use Rattle.protocol.specs.Calls.{Ok, Err, Refusal, WrongSize, OtherRegister, NoStation, NotIdle, NoEntry, NoCell, Progress, World, bad-size, bad-count, Out, refused-if, for-record, at-station, put-record, fresh, idled, leaving, beginning, collecting-at, collecting, withdrawing-at, withdrawing, stepped-record, stepping-by, decision, stepping}
+use Rattle.protocol.specs.Calls.{Ok, Err, Refusal, WrongSize, OtherRegister, NoStation, NotIdle, NoEntry, NoCell, Progress, World, bad-size, bad-count, Out, refused-if, put-record, fresh, idled, leaving, beginning, collecting-at, collecting, withdrawing-at, withdrawing, stepped-record, stepping-by, decision, stepping}
 use Rattle.protocol.specs.Turns.{Turn, begin, step, collect, withdraw, Reply, Log, latest, watched, log-at, logged-over}
 use Rattle.protocol.proofs.Lawful.{Lawful}
 use Rattle.protocol.proofs.Updates.{updated-same, updated-at, updated-other, updated-all}
@@ -24,27 +24,11 @@ use Rattle.protocol.proofs.Invariant.{Owner, free, by, taken, is-by, is-by-sel
 use Rattle.protocol.proofs.Effects.{given, once}
 use Rattle.protocol.proofs.Named.{named-settled, named-kept}
 use Rattle.protocol.proofs.Places.{length-after, Acted, acted, contents-inside, nth-same, nth-other}
+use Rattle.protocol.proofs.Checked.{by-check, by-station}
 use Rattle.protocol.proofs.Preserved.{Inv, rest-inv, leaving-inv, begin-inv, step-inv}
 
 edge-no-cell : (N q : ℕ) → (q ≡ 0) ⊎ (N < q) → cell N q ≡ true → ⊥
 edge-no-cell N q h e = grind arith
-
--- a call that a check may refuse: what holds of its refusal and of what follows the check
-pub by-check : {K A : Type 0} (P : Out K A → Type 0) (b : Bool) (e : Refusal) (w : World K) (o : Out K A) → P (w, Err e) → (b ≡ false → P o)
-    → P (refused-if b e w o)
-unfolding refused-if
-by-check P true e w o x y = x
-by-check P false e w o x y = y refl
-
-pub by-station : {K A : Type 0} (P : Out K A → Type 0) (w : World K) (s : ℕ) (f : Station K → Out K A) → P (w, Err NoStation)
-    → (bad-count (length (w .stations)) ≡ false → (u : Station K) → nth (w .stations) s ≡ holds u → P (f u)) → P (at-station w s f)
-unfolding for-record
-by-station P w s f x y =
-    by-check P (bad-count (length (w .stations))) NoStation w (for-record w (nth (w .stations) s) f) x (λ b. go (nth (w .stations) s) refl b)
-  where
-    go : (o : Content (Station _)) → nth (w .stations) s ≡ o → bad-count (length (w .stations)) ≡ false → P (for-record w o f)
-    go empty e b = x
-    go (holds u) e b = y b u e
 
 module _ {K : Type 0} (filler : K) where
   abbrev pub idle-record : Station K

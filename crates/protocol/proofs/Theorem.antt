@@ -15,7 +15,7 @@ use Rattle.protocol.specs.declared.Station.{Station}
 use Rattle.protocol.specs.Cells.{Content, empty, holds, nth, contents, marks}
 use Rattle.protocol.specs.Stages.{Answer, Idle, Standing, resting, homing, under-way, done, standing, busy, is-idle, names-cells}
 use Rattle.protocol.specs.Step.{Ordering, before, kind-over, took}
-use Rattle.protocol.specs.Calls.{Ok, Err, Refusal, WrongSize, OtherRegister, NoEntry, NoCell, Barred, World, bad-size, bad-count, Out, refused-if, idled, blank, idle-records, opening-if, beginning, collecting-at, collecting, withdrawing, stepping, whole-entry}
+use Rattle.protocol.specs.Calls.{Ok, Err, Refusal, WrongSize, OtherRegister, NoEntry, NoCell, World, bad-size, bad-count, Out, refused-if, idled, blank, idle-records, opening-if, beginning, collecting-at, collecting, withdrawing, stepping, whole-entry}
 use Rattle.protocol.specs.Turns.{Turn, begin, step, collect, withdraw, enter, turned-over, turned, Log, no-log, log-at, logged-over, logged, after-turns}
 use Rattle.protocol.specs.OneWorker.{table, Alike}
 use Rattle.protocol.specs.Safety.{New-once, Promise, Safe-from, Safe}
@@ -28,9 +28,10 @@ use Rattle.protocol.proofs.Invariant.{Owner, free, by, taken, is-by, is-by-sel
 use Rattle.protocol.proofs.Regions.{around}
 use Rattle.protocol.proofs.Effects.{given}
 use Rattle.protocol.proofs.Places.{contents-blank, marks-blank, nth-map}
-use Rattle.protocol.proofs.Barred.{whole-over, barred-unchanged}
+use Rattle.protocol.proofs.Checked.{by-check, by-station}
+use Rattle.protocol.proofs.Refused.{whole-over, refused-unchanged}
 use Rattle.protocol.proofs.Preserved.{Inv}
-use Rattle.protocol.proofs.Kept.{by-check, by-station, record-of, records-of, state, Kept, Goal, begun-kept, stepping-kept, collected-kept, withdrawing-kept, never-no-cell}
+use Rattle.protocol.proofs.Kept.{record-of, records-of, state, Kept, Goal, begun-kept, stepping-kept, collected-kept, withdrawing-kept, never-no-cell}
 use Rattle.protocol.proofs.Whole.{entered-kept}
 
 clash : {K A : Type 0} {x : K} {c : Content K} → c ≡ empty → c ≡ holds x → A
@@ -200,10 +201,9 @@ module _ {K : Type 0} {order : K → K → Ordering} {home : K → ℕ → ℕ} 
     };
     whole-ends = λ _ _. whole-over κ w (f .size);
     never-refused-6 = subst (λ m. (s : ℕ) → stepping (kind-over order home m) w s .1 ≡ Err NoCell → ⊥) (sym (f .size)) (never-no-cell κ filler w g f);
-    barred-same =
-        subst
-        (λ m. (k : K) → whole-entry (kind-over order home m) w k .1 ≡ Err Barred → whole-entry (kind-over order home m) w k .0 ≡ w)
-        (sym (f .size)) (barred-unchanged κ w (f .size));
+    refused-same =
+        subst (λ m. (t : Turn K) (e : Refusal) → turned-over (kind-over order home m) w t .1 ≡ Err e → turned-over (kind-over order home m) w t .0 ≡ w)
+        (sym (f .size)) (refused-unchanged κ w (f .size));
   }
 
 refuses : {K A : Type 0} (w : World K) (b : Bool) (o : Out K A) → b ≡ true → refused-if b WrongSize w o ≡ (w, Err WrongSize)
@@ -246,7 +246,7 @@ module _ {K : Type 0} (order : K → K → Ordering) (home : K → ℕ → ℕ) 
     condition = λ some few. absurd (both-ways (bad-size (length (w .cells))) (good-size (length (w .cells)) some few) bad);
     whole-ends = λ some few. absurd (both-ways (bad-size (length (w .cells))) (good-size (length (w .cells)) some few) bad);
     never-refused-6 = λ s e. let z = ap (λ o. o .1) (sym (all-refused (step s))) ∙ e in let y : _≡_ {A = ℕ} 0 1 = cc in omega arith;
-    barred-same = λ k e. ap (λ o. o .0) (all-refused (enter k));
+    refused-same = λ t e z. ap (λ o. o .0) (all-refused t);
   }
     where
       good-size : (n : ℕ) → 1 ≤ n → n ≤ 65536 → bad-size n ≡ false

@@ -24,8 +24,9 @@ use Rattle.protocol.proofs.State.{State, marks-after, with-station, step-by}
 use Rattle.protocol.proofs.Effects.{given, once, noted-once}
 use Rattle.protocol.proofs.Places.{length-after, Acted, acted, contents-inside, nth-past}
 use Rattle.protocol.proofs.Ends.{left-over, Wide, Falls, falls, positive}
+use Rattle.protocol.proofs.Checked.{by-check}
 use Rattle.protocol.proofs.Preserved.{updated-twice, Inv, rest-inv, rekey-inv, begin-inv, step-inv}
-use Rattle.protocol.proofs.Kept.{by-check, idle-record, record-of, records-of, state, edge-unmarked, inv-ext, stepped-is, Kept, Goal}
+use Rattle.protocol.proofs.Kept.{idle-record, record-of, records-of, state, edge-unmarked, inv-ext, stepped-is, Kept, Goal}
 
 module _ {K : Type 0} {N : ℕ} (κ : Lawful K N) (filler : K) (w : World K) (g : Log K) (f : Kept κ filler w g) (k : K) where
   abbrev own-number : ℕ

@@ -10,8 +10,8 @@ use Rattle.protocol.specs.declared.Station.{Station}
 use Rattle.protocol.specs.Cells.{holds, contents, marks}
 use Rattle.protocol.specs.Stages.{Answer, Inserted, Stage, Home, Answered}
 use Rattle.protocol.specs.Step.{Ordering, before, kind-over, took}
-use Rattle.protocol.specs.Calls.{Ok, Err, NoCell, Barred, World, opening, alone, enough}
-use Rattle.protocol.specs.Turns.{Turn, step, collect, enter, turned, Log, no-log, after-turns}
+use Rattle.protocol.specs.Calls.{Ok, Err, Refusal, NoCell, World, opening, alone, enough}
+use Rattle.protocol.specs.Turns.{Turn, step, collect, turned, Log, no-log, after-turns}
 use Rattle.protocol.specs.OneWorker.{table, Alike}
 
 module _ {K : Type 0} where
@@ -52,8 +52,8 @@ module _ {K : Type 0} (order : K → K → Ordering) (home : K → ℕ → ℕ) 
     pub never-refused-6 : (s : ℕ) → turned order home w (step s) .1 ≡ Err NoCell → ⊥
     -- a whole entry's steps are over before they are enough: that they are limited decides nothing
     pub whole-ends : 1 ≤ n → n ≤ 65536 → (k : K) → Ended-stage (alone (kind-over order home n) (enough n) k (w .cells) Home .1)
-    -- a whole entry that a mark bars has changed nothing
-    pub barred-same : (k : K) → turned order home w (enter k) .1 ≡ Err Barred → turned order home w (enter k) .0 ≡ w
+    -- a refused turn has changed nothing; of a whole entry that a mark bars this says that its steps have not
+    pub refused-same : (t : Turn K) (e : Refusal) → turned order home w t .1 ≡ Err e → turned order home w t .0 ≡ w
 
   -- after every list of turns from here
   abbrev pub Safe-from : World K → Type 0
