@@ -99,6 +99,14 @@ begun-100 = does (steps begun-400 0 6) (begin 1 (tray 100))
 abbrev pub withdrawn-400 : World Tray
 withdrawn-400 = does (steps begun-400 0 6) (withdraw 5 0)
 
+-- station 1 begins 400 too, and the two step by turns, so many times
+unfoldable pub by-turns : World Tray → ℕ → World Tray
+by-turns w zero = w
+by-turns w (suc n) = by-turns (does (does w (step 0)) (step 1)) n
+
+abbrev pub raced-400 : World Tray
+raced-400 = by-turns (does begun-400 (begin 1 (tray 400))) 20
+
 -- it has marked the left boundary when 900 takes the right one; then it is withdrawn
 abbrev pub overtaken-400 : World Tray
 overtaken-400 = does (does (steps begun-400 0 5) (enter (tray 900))) (withdraw 5 0)
@@ -125,6 +133,10 @@ pub record Examples : Type 0 where
   pub twelve : sayings begun-400 0 13 ≡ times 11 (Ok progress.GoesOn) (Ok progress.Answered ∷ Err NoEntry ∷ [])
   pub twelve-collected : turned trayOrder trayHome (steps begun-400 0 12) (collect 5 0) .1 ≡ Ok Inserted
   pub twelve-cells : row (steps begun-400 0 12) ≡ (empty ∷ holds 400 ∷ holds 500 ∷ [])
+  -- two stations enter 400 by turns: it is new for one of them, and the other finds it
+  pub race-inserted : turned trayOrder trayHome raced-400 (collect 5 0) .1 ≡ Ok Inserted
+  pub race-found : turned trayOrder trayHome raced-400 (collect 5 1) .1 ≡ Ok Found
+  pub race-cells : row raced-400 ≡ (empty ∷ holds 400 ∷ holds 500 ∷ [])
   -- after its sixth step, 100 at another station stays at home
   pub home-said : turned trayOrder trayHome begun-100 (step 1) .1 ≡ Ok progress.GoesOn
   pub home-stays : nth (does begun-100 (step 1) .stations) 1 ≡ holds (record { key = tray 100; stage = Home; withdrawn = false })
