@@ -14,9 +14,9 @@ use Rattle.protocol.proofs.Lawful.{Lawful, order-refl, order-back, versus-is, 
 use Rattle.protocol.proofs.Updates.{not-both, unoccupied-empty}
 use Rattle.protocol.proofs.Sorted.{Sorted, between-only}
 use Rattle.protocol.proofs.Worker.{worker-full}
-use Rattle.protocol.proofs.Holding.{cell-parts, no-cell, off-edge, two-at-r, two-off-r, two-edge-r}
+use Rattle.protocol.proofs.Holding.{cell-parts, is-cell, no-cell, one-here, one-edge, right-here, without-right, edge-right}
 use Rattle.protocol.proofs.Invariant.{Owner, by, In-shift, by-inj, Region, Checking, Core, region-mark, marked-by, still, own, marking}
-use Rattle.protocol.proofs.Regions.{hold-one, off-interval, apart-by, good-at, Closed, around, outside, clear}
+use Rattle.protocol.proofs.Regions.{off-interval, apart-by, good-at, Closed, around, outside, clear}
 use Rattle.protocol.proofs.Steps.{Done, answer-kept, found-at}
 
 -- where the gap starts, in the one worker's words
@@ -91,7 +91,7 @@ module _ {K : Type 0} {N : ℕ} (κ : Lawful K N) {T : ℕ → Content K} {M : �
     agreed : (r ≤ N → T r ≡ empty) → (r ≤ N → M r ≡ false) → (q : ℕ) → l ≤ q → q ≤ r → S q ≡ T q
     agreed em um q a b =
         let f : Half l r = record
-        { region = g; own-l = λ z. own κ c s (SecondMark l r) e l (hold-one N l l refl z (omega arith)); em = em; um = um }
+        { region = g; own-l = λ z. own κ c s (SecondMark l r) e l (one-here N l (is-cell N l z (omega arith))); em = em; um = um }
         in
         ⊎-elim (λ z. z)
         (λ i. let w = around κ c (i .0) q (i .1) in
@@ -115,12 +115,12 @@ module _ {K : Type 0} {N : ℕ} (κ : Lawful K N) {T : ℕ → Content K} {M : �
     give true x =
         let at : suc (pred l) ≡ l = let z = cell-parts N l x in omega arith in
         (still κ c s (SecondMark l r) (GiveBack (pred l)) e (λ q. ap (λ i. eqb q i && cell N q) at) (λ q i. i) (ap (cell N) at ∙ x), tt)
-    give false x = (still κ c s (SecondMark l r) Home e (λ q. sym (off-edge N l q x)) (λ q i. i) tt, tt)
+    give false x = (still κ c s (SecondMark l r) Home e (λ q. sym (one-edge N l q x)) (λ q i. i) tt, tt)
 
     by-r : (x b o : Bool) → cell N r ≡ x → M r ≡ b → is-occupied (T r) ≡ o → Done κ c s (at-second (κ .kind .place (ky s)) l r (cell N l) x b o)
     by-r false b o x m z =
         let off : N < r = ⊎-elim (λ (y : r ≡ 0). absurd (omega arith)) (λ y. y) (no-cell N r x) in (
-          still κ c s (SecondMark l r) (Check l r (κ .kind .place (ky s))) e (λ q. two-edge-r N l r q x) (λ q i. i)
+          still κ c s (SecondMark l r) (Check l r (κ .kind .place (ky s))) e (λ q. edge-right N l r q x) (λ q i. i)
               (checking M g (c .edge-high r off) (agreed (λ y. absurd (omega arith)) (λ y. absurd (omega arith)))),
           tt,
         )
@@ -128,7 +128,7 @@ module _ {K : Type 0} {N : ℕ} (κ : Lawful K N) {T : ℕ → Content K} {M : �
     by-r true false true x m z = give (cell N l) refl
     by-r true false false x m z =
         let em = unoccupied-empty (T r) z in (
-          marking κ c s (SecondMark l r) (Check l r (κ .kind .place (ky s))) r e m em (λ q n. two-off-r N l r q n) (two-at-r N l r x) (λ q i. i)
+          marking κ c s (SecondMark l r) (Check l r (κ .kind .place (ky s))) r e m em (λ q n. without-right N l r q n) (right-here N l r x) (λ q i. i)
               (checking (updated M r true) (region-mark κ r em g) em (agreed (λ y. em) (λ y. m))),
           tt,
         )

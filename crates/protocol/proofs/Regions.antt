@@ -1,27 +1,18 @@
 -- Marked boundaries keep regions apart.
 use mathlib.Core.Path.{_≡_, refl, sym, ap, _∙_, subst}
 use mathlib.Core.Logic.{_⊎_, inl, inr, ⊎-elim, _≢_}
-use mathlib.Core.Bool.{Bool, true, false, _&&_, _||_}
+use mathlib.Core.Bool.{Bool, true, false}
 use Prim.Native.Nat.{ℕ, suc, _≤_, _<_}
 use native.Mathlib.Omega.{arith}
-use lib.Dec.{eqb}
 use Rattle.std.proofs.shelf.Tests.{cases-lt, cases-eq, both-ways}
 use Rattle.protocol.specs.Cells.{Content, empty, cell}
-use Rattle.protocol.specs.Stages.{Leftward, Rightward, Stage, Idle, Home, Look, Left, Right, FirstMark, SecondMark, GiveBack, Check, Shift, ReleaseLeft, ReleaseRight, Answered}
+use Rattle.protocol.specs.Stages.{Leftward, Rightward, Stage, Idle, Home, Look, Left, Right, FirstMark, SecondMark, GiveBack, Check, Shift, ReleaseLeft, ReleaseRight, Answered, both-held}
 use Rattle.protocol.proofs.Lawful.{Lawful}
 use Rattle.protocol.proofs.Updates.{not-both}
-use Rattle.protocol.proofs.Holding.{holder}
+use Rattle.protocol.proofs.Holding.{held-at, holder, is-cell, one-here, left-here, right-here}
 use Rattle.protocol.proofs.Invariant.{Owner, by, Keeps, In-shift, by-inj, Region, Good, Core, marked-by, own}
 
-pub hold-l : (N l r : ℕ) → 0 < l → l ≤ N → ((eqb l l || eqb l r) && cell N l) ≡ true
-hold-l N l r a b = grind arith
-
-pub hold-r : (N l r : ℕ) → 0 < r → r ≤ N → ((eqb r l || eqb r r) && cell N r) ≡ true
-hold-r N l r a b = grind arith
-
-pub hold-one : (N l p : ℕ) → p ≡ l → 0 < p → p ≤ N → (eqb p l && cell N p) ≡ true
-hold-one N l p e a b = grind arith
-
+-- a place is off an interval if it is not in it
 pub off-interval : (p l r : ℕ) → (l ≤ p → p ≤ r → ⊥) → (p < l) ⊎ (r < p)
 off-interval p l r h = ⊎-elim inl (λ a. ⊎-elim inr (λ b. absurd (h a b)) (cases-lt r p)) (cases-lt p l)
 
@@ -40,13 +31,13 @@ module _ {K : Type 0} {N : ℕ} (κ : Lawful K N) {T : ℕ → Content K} {M : �
     pub own-l : 0 < l → O l ≡ by t
     pub own-r : r ≤ N → O r ≡ by t
 
-  closed : (t l r : ℕ) (x : Stage) → st t ≡ x → ((p : ℕ) → holder N x p ≡ ((eqb p l || eqb p r) && cell N p)) → Region κ T M (ky t) l r → Closed t l r
+  closed : (t l r : ℕ) (x : Stage) → st t ≡ x → ((p : ℕ) → holder N x p ≡ held-at N (both-held l r) p) → Region κ T M (ky t) l r → Closed t l r
   closed t l r x e ho g =
       let a = g .l-h in let b = g .h-r in let h = κ .place-high (ky t) in let h′ = κ .place-low (ky t) in
       record {
         region = g;
-        own-l = λ z. own κ c t x e l (ho l ∙ hold-l N l r z (omega arith));
-        own-r = λ z. own κ c t x e r (ho r ∙ hold-r N l r (omega arith) z);
+        own-l = λ z. own κ c t x e l (ho l ∙ left-here N l r (is-cell N l z (omega arith)));
+        own-r = λ z. own κ c t x e r (ho r ∙ right-here N l r (is-cell N r (omega arith) z));
       }
 
   pub closed-check : (t l r p : ℕ) → st t ≡ Check l r p → Closed t l r
@@ -106,7 +97,7 @@ module _ {K : Type 0} {N : ℕ} (κ : Lawful K N) {T : ℕ → Content K} {M : �
       go (Left q) e h = absurd h
       go (Right l q) e h = absurd h
       go (FirstMark l r) e h = absurd h
-      go (SecondMark l r) e h = inl (λ a b. own κ c t (SecondMark l r) e p (hold-one N l p h a b))
+      go (SecondMark l r) e h = inl (λ a b. subst (λ i. O i ≡ by t) (sym h) (own κ c t (SecondMark l r) e l (one-here N l (subst (λ i. cell N i ≡ true) h (is-cell N p a b)))))
       go (GiveBack g) e h = absurd h
       go (Check l r q) e h = inr (l, r, closed-check t l r q e, h .0, h .1)
       go (Shift Leftward l r g) e h = inr (l, r, closed-left t l r g e, h .0, h .1)

@@ -14,7 +14,7 @@ use Rattle.protocol.proofs.Lawful.{Lawful, by-place, versus-none, versus-same,
 use Rattle.protocol.proofs.Updates.{updated-same, updated-at, updated-other, not-both, holds-occupied, unoccupied-empty}
 use Rattle.protocol.proofs.Sorted.{home-left, home-right, inside, More, more-sorted}
 use Rattle.protocol.proofs.Worker.{worker-home, worker-found}
-use Rattle.protocol.proofs.Holding.{holder, no-cell, off-one, off-two, one-at, off-edge, two-at, two-edge-l, one-other}
+use Rattle.protocol.proofs.Holding.{holder, no-cell, one-here, one-elsewhere, one-edge, left-here, without-left, edge-left}
 use Rattle.protocol.proofs.State.{contents-after, marks-after}
 use Rattle.protocol.proofs.Invariant.{Owner, owners-after, Keeps, In-shift, Solid, table-after, Right-answer, answer-same, answer-new, Region, Good, Core, region-mark, marked-by, make, still, own, marking, unmarking}
 use Rattle.protocol.proofs.Regions.{good-at, around, relied, clear}
@@ -257,20 +257,20 @@ module _ {K : Type 0} {N : ℕ} (κ : Lawful K N) {T : ℕ → Content K} {M : �
       go : (x b o : Bool) → cell N l ≡ x → M l ≡ b → is-occupied (T l) ≡ o → Done (at-first l r x b o)
       go false b o x m z =
           let empty-edge : T l ≡ empty = ⊎-elim (λ y. ap T y ∙ c .edge-low) (λ y. c .edge-high l y) (no-cell N l x) in
-          (still κ c s (FirstMark l r) (SecondMark l r) e (λ q. off-edge N l q x) (λ q i. i) (g, empty-edge), tt)
+          (still κ c s (FirstMark l r) (SecondMark l r) e (λ q. one-edge N l q x) (λ q i. i) (g, empty-edge), tt)
       go true true o x m z = (still κ c s (FirstMark l r) Home e (λ q. refl) (λ q i. i) tt, tt)
       go true false true x m z = (still κ c s (FirstMark l r) Home e (λ q. refl) (λ q i. i) tt, tt)
       go true false false x m z = (
-        marking κ c s (FirstMark l r) (SecondMark l r) l e m (unoccupied-empty (T l) z) (λ q n. off-one N l q n)
-            (one-at N l x) (λ q i. i) (region-mark κ l (unoccupied-empty (T l) z) g, unoccupied-empty (T l) z),
+        marking κ c s (FirstMark l r) (SecondMark l r) l e m (unoccupied-empty (T l) z) (λ q n. one-elsewhere N l q n)
+            (one-here N l x) (λ q i. i) (region-mark κ l (unoccupied-empty (T l) z) g, unoccupied-empty (T l) z),
         tt,
       )
 
   pub back-step : (g : ℕ) → st s ≡ GiveBack g → Done (decide (κ .kind) (ky s) (GiveBack g) T M)
   back-step g e =
       let x = good-at κ c s (GiveBack g) e in (
-        unmarking κ c s (GiveBack g) Home (suc g) e (own κ c s (GiveBack g) e (suc g) (one-at N (suc g) x))
-            (λ q n. sym (off-one N (suc g) q n)) refl (λ q i. i) tt,
+        unmarking κ c s (GiveBack g) Home (suc g) e (own κ c s (GiveBack g) e (suc g) (one-here N (suc g) x))
+            (λ q n. sym (one-elsewhere N (suc g) q n)) refl (λ q i. i) tt,
         tt,
       )
 
@@ -280,12 +280,12 @@ module _ {K : Type 0} {N : ℕ} (κ : Lawful K N) {T : ℕ → Content K} {M : �
       go : (b : Bool) → cell N l ≡ b → Done (release l b (ReleaseRight r a))
       go true x = (
         unmarking κ c s (ReleaseLeft l r a) (ReleaseRight r a) l e
-            (own κ c s (ReleaseLeft l r a) e l (two-at N l r x)) (λ q m. off-two N l r q m)
-            (one-other N l r (let z = good-at κ c s (ReleaseLeft l r a) e in omega arith))
+            (own κ c s (ReleaseLeft l r a) e l (left-here N l r x)) (λ q m. without-left N l r q m)
+            (one-elsewhere N r l (let z = good-at κ c s (ReleaseLeft l r a) e in omega arith))
             (λ q i. i) tt,
         tt,
       )
-      go false x = (still κ c s (ReleaseLeft l r a) (ReleaseRight r a) e (λ q. two-edge-l N l r q x) (λ q i. i) tt, tt)
+      go false x = (still κ c s (ReleaseLeft l r a) (ReleaseRight r a) e (λ q. edge-left N l r q x) (λ q i. i) tt, tt)
 
   pub unright-step : (r : ℕ) (a : Answer) → st s ≡ ReleaseRight r a → Done (decide (κ .kind) (ky s) (ReleaseRight r a) T M)
   unright-step r a e = go (cell N r) refl
@@ -293,8 +293,8 @@ module _ {K : Type 0} {N : ℕ} (κ : Lawful K N) {T : ℕ → Content K} {M : �
       go : (b : Bool) → cell N r ≡ b → Done (release r b (Answered a))
       go true x = (
         unmarking κ c s (ReleaseRight r a) (Answered a) r e
-            (own κ c s (ReleaseRight r a) e r (one-at N r x)) (λ q m. sym (off-one N r q m))
+            (own κ c s (ReleaseRight r a) e r (one-here N r x)) (λ q m. sym (one-elsewhere N r q m))
             refl (λ q i. i) tt,
         tt,
       )
-      go false x = (still κ c s (ReleaseRight r a) (Answered a) e (λ q. sym (off-edge N r q x)) (λ q i. i) tt, tt)
+      go false x = (still κ c s (ReleaseRight r a) (Answered a) e (λ q. sym (one-edge N r q x)) (λ q i. i) tt, tt)
