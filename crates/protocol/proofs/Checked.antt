@@ -1,5 +1,4 @@
 -- Calls whose checks may refuse them.
--- what holds of the refusal, and of what follows the check, holds of the call
 use mathlib.Core.Path.{_≡_, refl}
 use mathlib.Core.Bool.{Bool, true, false}
 use Prim.Native.Nat.{ℕ}
@@ -8,6 +7,7 @@ use Rattle.protocol.specs.declared.Station.{Station}
 use Rattle.protocol.specs.Cells.{Content, empty, holds, nth}
 use Rattle.protocol.specs.Calls.{Err, Refusal, NoStation, World, bad-count, Out, refused-if, for-record, at-station}
 
+-- what holds of the refusal, and of what follows the check, holds of the call
 pub by-check : {K A : Type 0} (P : Out K A → Type 0) (b : Bool) (e : Refusal) (w : World K) (o : Out K A) → P (w, Err e) → (b ≡ false → P o)
     → P (refused-if b e w o)
 unfolding refused-if

@@ -1,5 +1,4 @@
 -- Which places a stage holds.
--- the places at which a stage holds a mark
 use mathlib.Core.Path.{_≡_, refl, ap}
 use mathlib.Core.Logic.{_⊎_, inl, inr, ⊎-elim, _≢_}
 use mathlib.Core.Bool.{Bool, true, false, _&&_, _||_}
@@ -11,6 +10,7 @@ use Rattle.protocol.specs.Cells.{cell}
 use Rattle.protocol.specs.Stages.{Stage, Standing, resting, homing, under-way, done, standing, busy-by, busy, Held, none-held, one-held, both-held, held-by, some-cell}
 use Rattle.protocol.proofs.Standings.{Means, stage-is}
 
+-- the places at which a stage holds a mark
 abbrev pub held-at : ℕ → Held → ℕ → Bool
 held-at N none-held q = false
 held-at N (one-held p) q = eqb q p && cell N q
@@ -19,6 +19,7 @@ held-at N (both-held l r) q = (eqb q l || eqb q r) && cell N q
 abbrev pub holder : ℕ → Stage → ℕ → Bool
 holder N x q = held-at N (held-by x) q
 
+-- a station that holds a mark has a step to make
 pub holder-busy : (N : ℕ) (x : Stage) (p : ℕ) → holder N x p ≡ true → busy x ≡ true
 holder-busy N x p h = go (standing x) (stage-is x)
   where

@@ -6,7 +6,7 @@ use Prim.Native.Nat.{ℕ, suc, _≤_, _<_}
 use native.Mathlib.Omega.{arith}
 use Rattle.std.proofs.shelf.Tests.{cases-lt, cases-eq, both-ways}
 use Rattle.protocol.specs.Cells.{Content, empty, cell}
-use Rattle.protocol.specs.Stages.{Leftward, Rightward, Stage, Idle, Home, Look, Left, Right, FirstMark, SecondMark, GiveBack, Check, Shift, ReleaseLeft, ReleaseRight, Answered, both-held}
+use Rattle.protocol.specs.Stages.{Direction, Leftward, Rightward, Stage, Idle, Home, Look, Left, Right, FirstMark, SecondMark, GiveBack, Check, Shift, ReleaseLeft, ReleaseRight, Answered, both-held}
 use Rattle.protocol.proofs.Lawful.{Lawful}
 use Rattle.protocol.proofs.Updates.{not-both}
 use Rattle.protocol.proofs.Holding.{held-at, holder, is-cell, one-here, left-here, right-here}
@@ -43,11 +43,17 @@ module _ {K : Type 0} {N : ℕ} (κ : Lawful K N) {T : ℕ → Content K} {M : �
   pub closed-check : (t l r p : ℕ) → st t ≡ Check l r p → Closed t l r
   closed-check t l r p e = closed t l r (Check l r p) e (λ q. refl) (good-at t (Check l r p) e .region)
 
-  pub closed-left : (t l r g : ℕ) → st t ≡ Shift Leftward l r g → Closed t l r
-  closed-left t l r g e = closed t l r (Shift Leftward l r g) e (λ q. refl) (good-at t (Shift Leftward l r g) e .region)
+  -- a shift, either way, has a region, and a cell for a boundary
+  shift-region : (k : K) (d : Direction) (l r g : ℕ) → Good κ T M S k (Shift d l r g) → Region κ T M k l r
+  shift-region k Leftward l r g d = d .region
+  shift-region k Rightward l r g d = d .region
 
-  pub closed-right : (t l r g : ℕ) → st t ≡ Shift Rightward l r g → Closed t l r
-  closed-right t l r g e = closed t l r (Shift Rightward l r g) e (λ q. refl) (good-at t (Shift Rightward l r g) e .region)
+  shift-cell : (k : K) (d : Direction) (l r g : ℕ) → Good κ T M S k (Shift d l r g) → (0 < l) ⊎ (r ≤ N)
+  shift-cell k Leftward l r g d = inr (d .cell-r)
+  shift-cell k Rightward l r g d = inl (d .cell-l)
+
+  pub closed-shift : (t : ℕ) (d : Direction) (l r g : ℕ) → st t ≡ Shift d l r g → Closed t l r
+  closed-shift t d l r g e = closed t l r (Shift d l r g) e (λ q. refl) (shift-region (ky t) d l r g (good-at t (Shift d l r g) e))
 
   -- a region around p, with a cell for a boundary
   pub record Around (t p : ℕ) : Type 0 where
@@ -71,14 +77,12 @@ module _ {K : Type 0} {N : ℕ} (κ : Lawful K N) {T : ℕ → Content K} {M : �
       go (SecondMark l r) e h = absurd h
       go (GiveBack g) e h = absurd h
       go (Check l r q) e h = absurd h
-      go (Shift Leftward l r g) e h =
-          record { l = l; r = r; closed-region = closed-left t l r g e; some-cell = inr (good-at t (Shift Leftward l r g) e .cell-r); l-p = h .0; p-r = h .1 }
-      go (Shift Rightward l r g) e h =
+      go (Shift d l r g) e h =
           record {
             l = l;
             r = r;
-            closed-region = closed-right t l r g e;
-            some-cell = inl (good-at t (Shift Rightward l r g) e .cell-l);
+            closed-region = closed-shift t d l r g e;
+            some-cell = shift-cell (ky t) d l r g (good-at t (Shift d l r g) e);
             l-p = h .0;
             p-r = h .1;
           }
@@ -100,8 +104,7 @@ module _ {K : Type 0} {N : ℕ} (κ : Lawful K N) {T : ℕ → Content K} {M : �
       go (SecondMark l r) e h = inl (λ a b. subst (λ i. O i ≡ by t) (sym h) (own κ c t (SecondMark l r) e l (one-here N l (subst (λ i. cell N i ≡ true) h (is-cell N p a b)))))
       go (GiveBack g) e h = absurd h
       go (Check l r q) e h = inr (l, r, closed-check t l r q e, h .0, h .1)
-      go (Shift Leftward l r g) e h = inr (l, r, closed-left t l r g e, h .0, h .1)
-      go (Shift Rightward l r g) e h = inr (l, r, closed-right t l r g e, h .0, h .1)
+      go (Shift d l r g) e h = inr (l, r, closed-shift t d l r g e, h .0, h .1)
       go (ReleaseLeft l r a) e h = absurd h
       go (ReleaseRight r a) e h = absurd h
       go (Answered a) e h = absurd h

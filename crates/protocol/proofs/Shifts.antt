@@ -15,7 +15,7 @@ use Rattle.protocol.proofs.Sorted.{home-left, home-right, More, more-sorted, b
 use Rattle.protocol.proofs.Worker.{Slid-up, Slid-down, is-higher, is-lower, slid-up, slid-down, worker-gap}
 use Rattle.protocol.proofs.Holding.{holder}
 use Rattle.protocol.proofs.Invariant.{Owner, Keeps, Solid, answer-new, Shifting-left, Shifting-right, Core, region-stable, make, agree-still}
-use Rattle.protocol.proofs.Regions.{closed-left, closed-right, keeps-off}
+use Rattle.protocol.proofs.Regions.{closed-shift, keeps-off}
 use Rattle.protocol.proofs.Steps.{Done}
 
 module _ {K : Type 0} {N : ℕ} (κ : Lawful K N) {T : ℕ → Content K} {M : ℕ → Bool} {O : ℕ → Owner} {ky : ℕ → K} {st : ℕ → Stage} {S : ℕ → Content K} (c : Core κ T M O ky st S) (s : ℕ) where
@@ -23,7 +23,7 @@ module _ {K : Type 0} {N : ℕ} (κ : Lawful K N) {T : ℕ → Content K} {M : �
     off-left : (t p : ℕ) → s ≢ t → Keeps (st t) p → suc u ≤ p → p ≤ r → ⊥
     off-left t p n h a b =
         ⊎-elim (λ f. f (omega arith) (omega arith)) (λ x. x)
-        (keeps-off κ c s t l r p n (closed-left κ c s l r u e) (inr (d .cell-r)) h (omega arith) b)
+        (keeps-off κ c s t l r p n (closed-shift κ c s Leftward l r u e) (inr (d .cell-r)) h (omega arith) b)
 
     s-pred : S u ≡ T u
     s-pred = d .kept u (omega arith) (omega arith)
@@ -251,7 +251,7 @@ module _ {K : Type 0} {N : ℕ} (κ : Lawful K N) {T : ℕ → Content K} {M : �
     off-right : (t p : ℕ) → s ≢ t → Keeps (st t) p → l ≤ p → p ≤ suc u → ⊥
     off-right t p n h a b =
         ⊎-elim (λ f. f (omega arith) (omega arith)) (λ x. x)
-        (keeps-off κ c s t l r p n (closed-right κ c s l r u e) (inl (d .cell-l)) h (omega arith) (omega arith))
+        (keeps-off κ c s t l r p n (closed-shift κ c s Rightward l r u e) (inl (d .cell-l)) h (omega arith) (omega arith))
 
     s-next : S (suc (suc u)) ≡ T (suc (suc u))
     s-next = d .kept (suc (suc u)) (omega arith) (omega arith)

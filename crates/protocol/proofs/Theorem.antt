@@ -1,5 +1,4 @@
 -- The theorem: the invariant holds after an opening, every turn keeps it, and it gives what is promised.
--- A register of no or too many cells refuses every turn.
 use mathlib.Core.Path.{_≡_, refl, sym, ap, _∙_, subst}
 use mathlib.Core.Logic.{inl, ⊎-elim}
 use mathlib.Core.Bool.{Bool, true, false, cond, not}
@@ -206,6 +205,7 @@ module _ {K : Type 0} {order : K → K → Ordering} {home : K → ℕ → ℕ} 
         (sym (f .size)) (refused-unchanged κ w (f .size));
   }
 
+-- a register of no or too many cells refuses every turn
 refuses : {K A : Type 0} (w : World K) (b : Bool) (o : Out K A) → b ≡ true → refused-if b WrongSize w o ≡ (w, Err WrongSize)
 unfolding refused-if
 refuses w b o e = ap (λ x. refused-if x WrongSize w o) e

@@ -1,5 +1,4 @@
 -- The worked examples of the rules, over trays.
--- a tray by its number
 use mathlib.Core.Path.{_≡_}
 use mathlib.Core.Bool.{true, false}
 use mathlib.Core.List.{List, [], _∷_}
@@ -18,6 +17,7 @@ use Rattle.protocol.specs.Calls.{Result, Ok, Err, Refusal, WrongSize, OtherReg
 use Rattle.protocol.specs.Turns.{Turn, begin, step, collect, withdraw, enter, turned}
 use Rattle.protocol.specs.OneWorker.{one-worker}
 
+-- a tray by its number
 abbrev pub tray : ℕ → Tray
 tray k = record { number = k }
 
