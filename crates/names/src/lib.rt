@@ -113,7 +113,7 @@ pub impl Ord for Name as NameOrd {
     ghost orders = { λ x y r. r ≡ nameOrder x y };
 
     fn cmp(&self, other: &Name) -> Ordering {
-        self.compare(*other)
+        NameKey::compare(*self, *other)
     }
 }
 
