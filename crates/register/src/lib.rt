@@ -108,3 +108,6 @@ impl<'a, K: Key> Register<'a, K> {
         calls::key_at(self.cells, i)
     }
 }
+
+#[cfg(test)]
+mod tests;
