@@ -78,7 +78,6 @@ module _ {K : Type 0} {N : ℕ} (κ : Lawful K N) (k : K) where
   Falls x y = (y ≡ Home) ⊎ (Wide N y × (left-over N (κ .kind .place k) y < left-over N (κ .kind .place k) x) × (is-idle y ≡ false))
 
   module _ (T : ℕ → Content K) (M : ℕ → Bool) (inside : (p : ℕ) → is-occupied (T p) ≡ true → (0 < p) × (p ≤ N)) where
-
     home-falls : (b : Bool) (v : Versus) → versus (κ .kind) k (T (κ .kind .place k)) ≡ v → Falls Home (at-home k (κ .kind .place k) b v .next)
     unfolding Falls Wide left-over
     home-falls true v e = inl refl
@@ -97,9 +96,9 @@ module _ {K : Type 0} {N : ℕ} (κ : Lawful K N) (k : K) where
         let i = inside p (versus-occupied κ k (T p) after v) in let b = κ .place-high k in
         let d = dist-left N (κ .kind .place k) (pred p) (omega arith) in
         ⊎-elim
-          (λ (a : p < κ .kind .place k). let e = dist-left N (κ .kind .place k) p a in omega arith)
-          (λ a. let e = dist-home N (κ .kind .place k) p (omega arith) in omega arith)
-          (cases-lt p (κ .kind .place k))
+        (λ (a : p < κ .kind .place k). let e = dist-left N (κ .kind .place k) p a in omega arith)
+        (λ a. let e = dist-home N (κ .kind .place k) p (omega arith) in omega arith)
+        (cases-lt p (κ .kind .place k))
 
     nearer-right : (p : ℕ) → versus (κ .kind) k (T p) ≡ is before → κ .kind .place k ≤ p
         → dist N (κ .kind .place k) (suc p) < dist N (κ .kind .place k) p
@@ -107,9 +106,9 @@ module _ {K : Type 0} {N : ℕ} (κ : Lawful K N) (k : K) where
         let i = inside p (versus-occupied κ k (T p) before v) in
         let d = dist-right N (κ .kind .place k) (suc p) (omega arith) in
         ⊎-elim
-          (λ (a : κ .kind .place k < p). let e = dist-right N (κ .kind .place k) p a in omega arith)
-          (λ a. let e = dist-home N (κ .kind .place k) p (omega arith) in omega arith)
-          (cases-lt (κ .kind .place k) p)
+        (λ (a : κ .kind .place k < p). let e = dist-right N (κ .kind .place k) p a in omega arith)
+        (λ a. let e = dist-home N (κ .kind .place k) p (omega arith) in omega arith)
+        (cases-lt (κ .kind .place k) p)
 
     walk-falls : (p : ℕ) (v : Versus) → versus (κ .kind) k (T p) ≡ v → (q : ℕ) → walk-at (κ .kind .place k) p v ≡ Onward q
         → dist N (κ .kind .place k) q < dist N (κ .kind .place k) p
@@ -121,8 +120,8 @@ module _ {K : Type 0} {N : ℕ} (κ : Lawful K N) (k : K) where
             → dist N (κ .kind .place k) q < dist N (κ .kind .place k) p
         by-test true t w =
             subst
-              (λ y. dist N (κ .kind .place k) y < dist N (κ .kind .place k) p) (let z : pred p ≡ q = cc in z)
-              (nearer-left p e (leb-true p (κ .kind .place k) t))
+            (λ y. dist N (κ .kind .place k) y < dist N (κ .kind .place k) p) (let z : pred p ≡ q = cc in z)
+            (nearer-left p e (leb-true p (κ .kind .place k) t))
         by-test false t w = let z : _≡_ {A = ℕ} 0 1 = cc in absurd (omega arith)
     walk-falls p (is before) e q w = by-test (leb (κ .kind .place k) p) refl w
       where
@@ -130,8 +129,8 @@ module _ {K : Type 0} {N : ℕ} (κ : Lawful K N) (k : K) where
             → dist N (κ .kind .place k) q < dist N (κ .kind .place k) p
         by-test true t w =
             subst
-              (λ y. dist N (κ .kind .place k) y < dist N (κ .kind .place k) p) (let z : suc p ≡ q = cc in z)
-              (nearer-right p e (leb-true (κ .kind .place k) p t))
+            (λ y. dist N (κ .kind .place k) y < dist N (κ .kind .place k) p) (let z : suc p ≡ q = cc in z)
+            (nearer-right p e (leb-true (κ .kind .place k) p t))
         by-test false t w = let z : _≡_ {A = ℕ} 0 1 = cc in absurd (omega arith)
 
     look-falls : (p : ℕ) (w : Walk) → ((q : ℕ) → w ≡ Onward q → dist N (κ .kind .place k) q < dist N (κ .kind .place k) p)
@@ -227,7 +226,7 @@ module _ {K : Type 0} {N : ℕ} (κ : Lawful K N) (k : K) where
     falls (GiveBack g) b w = inl refl
     falls (Check l r p) b w =
         check-falls l r p w (cell N l) (cell N r) (is-after (versus (κ .kind) k (T (κ .kind .place k))))
-          (walk-at (κ .kind .place k) p (versus (κ .kind) k (T p))) (walk-falls p (versus (κ .kind) k (T p)) refl)
+        (walk-at (κ .kind .place k) p (versus (κ .kind) k (T p))) (walk-falls p (versus (κ .kind) k (T p)) refl)
     falls (Shift d l r g) b w = shift-falls d l r g (T (beside d g)) refl
     falls (ReleaseLeft l r a) b w = release-left-falls l r a (cell N l)
     falls (ReleaseRight r a) b w = release-right-falls r a (cell N r)
@@ -259,10 +258,10 @@ module _ {K : Type 0} {N : ℕ} (κ : Lawful K N) (k : K) where
       let m = decision (κ .kind) cs k x in
       let after-it = cells-after (m .act) cs in
       ⊎-elim
-        (λ e. inl (ap (λ y. ends-by (standing y) (after-it, m .next) (alone (κ .kind) n k after-it (m .next)) .1) e ∙ e))
-        (λ f. by-standing after-it (m .next) (alone (κ .kind) n k after-it (m .next)) (standing (m .next)) (stage-is (m .next)) refl (f .2)
-          (λ u. alone-ends n after-it (m .next) (length-after (m .act) cs ∙ size) u (f .0) (omega arith)))
-        (falls (contents cs) (marks cs) (contents-inside cs N size) x b w)
+      (λ e. inl (ap (λ y. ends-by (standing y) (after-it, m .next) (alone (κ .kind) n k after-it (m .next)) .1) e ∙ e))
+      (λ f. by-standing after-it (m .next) (alone (κ .kind) n k after-it (m .next)) (standing (m .next)) (stage-is (m .next)) refl (f .2)
+      (λ u. alone-ends n after-it (m .next) (length-after (m .act) cs ∙ size) u (f .0) (omega arith)))
+      (falls (contents cs) (marks cs) (contents-inside cs N size) x b w)
     where
       by-standing : (cs : List (Cell K)) (x : Stage) (o : List (Cell K) × Stage) (y : Standing) → Means x y → standing x ≡ y → is-idle x ≡ false
           → (busy x ≡ true → Ended-stage (o .1)) → Ended-stage (ends-by y (cs, x) o .1)

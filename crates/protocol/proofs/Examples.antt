@@ -2,10 +2,10 @@
 use mathlib.Core.Path.{refl}
 use Rattle.protocol.specs.Calls.{refused-if, for-record, beginning, collecting, withdrawing, stepping, alone, whole-entry}
 use Rattle.protocol.specs.OneWorker.{all-occupied, empty-left, empty-right, has, slide-left, slide-right, one-worker}
-use Rattle.protocol.specs.Examples.{entering, answers, steps, sayings, worked, worker-answers, Examples}
+use Rattle.protocol.specs.Examples.{entering, answers, steps, sayings, worked, worker-answers, by-turns, Examples}
 
 pub examples : Examples
-unfolding entering answers steps sayings worked worker-answers one-worker all-occupied empty-left empty-right has slide-left slide-right refused-if for-record beginning stepping collecting withdrawing alone whole-entry
+unfolding entering answers steps sayings by-turns worked worker-answers one-worker all-occupied empty-left empty-right has slide-left slide-right refused-if for-record beginning stepping collecting withdrawing alone whole-entry
 examples = record {
   ten-worker = refl;
   ten = refl;
@@ -18,6 +18,9 @@ examples = record {
   twelve = refl;
   twelve-collected = refl;
   twelve-cells = refl;
+  race-inserted = refl;
+  race-found = refl;
+  race-cells = refl;
   home-said = refl;
   home-stays = refl;
   withdrawn-said = refl;

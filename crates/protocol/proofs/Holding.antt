@@ -1,5 +1,4 @@
 -- Which places a stage holds.
--- the places at which a stage holds a mark
 use mathlib.Core.Path.{_≡_, refl, ap}
 use mathlib.Core.Logic.{_⊎_, inl, inr, ⊎-elim, _≢_}
 use mathlib.Core.Bool.{Bool, true, false, _&&_, _||_}
@@ -11,6 +10,7 @@ use Rattle.protocol.specs.Cells.{cell}
 use Rattle.protocol.specs.Stages.{Stage, Standing, resting, homing, under-way, done, standing, busy-by, busy, Held, none-held, one-held, both-held, held-by, some-cell}
 use Rattle.protocol.proofs.Standings.{Means, stage-is}
 
+-- the places at which a stage holds a mark
 abbrev pub held-at : ℕ → Held → ℕ → Bool
 held-at N none-held q = false
 held-at N (one-held p) q = eqb q p && cell N q
@@ -19,6 +19,7 @@ held-at N (both-held l r) q = (eqb q l || eqb q r) && cell N q
 abbrev pub holder : ℕ → Stage → ℕ → Bool
 holder N x q = held-at N (held-by x) q
 
+-- a station that holds a mark has a step to make
 pub holder-busy : (N : ℕ) (x : Stage) (p : ℕ) → holder N x p ≡ true → busy x ≡ true
 holder-busy N x p h = go (standing x) (stage-is x)
   where
@@ -42,39 +43,40 @@ no-holder N (both-held l r) e p = grind arith
 pub cell-parts : (N p : ℕ) → cell N p ≡ true → (0 < p) × (p ≤ N)
 cell-parts N p e = grind arith
 
+pub is-cell : (N p : ℕ) → 0 < p → p ≤ N → cell N p ≡ true
+is-cell N p a b = grind arith
+
 pub no-cell : (N p : ℕ) → cell N p ≡ false → (p ≡ 0) ⊎ (N < p)
 no-cell N p e =
-    ⊎-elim
-      (λ (a : 0 < p). inr (⊎-elim (λ b. b) (λ (b : p ≤ N). absurd (both-ways (cell N p) e (grind arith))) (cases-lt N p)))
-      (λ a. inl (omega arith)) (cases-lt 0 p)
+    ⊎-elim (λ (a : 0 < p). inr (⊎-elim (λ b. b) (λ b. absurd (both-ways (cell N p) e (is-cell N p a b))) (cases-lt N p)))
+    (λ a. inl (omega arith)) (cases-lt 0 p)
 
--- a release of p where only p or both are held
-pub off-one : (N l q : ℕ) → l ≢ q → (eqb q l && cell N q) ≡ false
-off-one N l q n = grind arith
+-- one boundary is held at itself, if it is a cell, and nowhere else
+pub one-here : (N l : ℕ) → cell N l ≡ true → held-at N (one-held l) l ≡ true
+one-here N l e = grind arith
 
-pub off-two : (N l r q : ℕ) → l ≢ q → (eqb q r && cell N q) ≡ ((eqb q l || eqb q r) && cell N q)
-off-two N l r q n = grind arith
+pub one-elsewhere : (N l q : ℕ) → l ≢ q → held-at N (one-held l) q ≡ false
+one-elsewhere N l q n = grind arith
 
-pub one-at : (N l : ℕ) → cell N l ≡ true → (eqb l l && cell N l) ≡ true
-one-at N l e = grind arith
+pub one-edge : (N l q : ℕ) → cell N l ≡ false → held-at N (one-held l) q ≡ false
+one-edge N l q e = grind arith
 
-pub off-edge : (N l q : ℕ) → cell N l ≡ false → (eqb q l && cell N q) ≡ false
-off-edge N l q e = grind arith
+-- both are held at either, if it is a cell
+pub left-here : (N l r : ℕ) → cell N l ≡ true → held-at N (both-held l r) l ≡ true
+left-here N l r e = grind arith
 
-pub two-at : (N l r : ℕ) → cell N l ≡ true → ((eqb l l || eqb l r) && cell N l) ≡ true
-two-at N l r e = grind arith
+pub right-here : (N l r : ℕ) → cell N r ≡ true → held-at N (both-held l r) r ≡ true
+right-here N l r e = grind arith
 
-pub two-at-r : (N l r : ℕ) → cell N r ≡ true → ((eqb r l || eqb r r) && cell N r) ≡ true
-two-at-r N l r e = grind arith
+-- off l, and where l is an edge, to hold both is to hold r; off r, and where r is an edge, to hold l
+pub without-left : (N l r q : ℕ) → l ≢ q → held-at N (one-held r) q ≡ held-at N (both-held l r) q
+without-left N l r q n = grind arith
 
-pub two-off-r : (N l r q : ℕ) → r ≢ q → ((eqb q l || eqb q r) && cell N q) ≡ (eqb q l && cell N q)
-two-off-r N l r q n = grind arith
+pub edge-left : (N l r q : ℕ) → cell N l ≡ false → held-at N (one-held r) q ≡ held-at N (both-held l r) q
+edge-left N l r q e = grind arith
 
-pub two-edge-l : (N l r q : ℕ) → cell N l ≡ false → (eqb q r && cell N q) ≡ ((eqb q l || eqb q r) && cell N q)
-two-edge-l N l r q e = grind arith
+pub without-right : (N l r q : ℕ) → r ≢ q → held-at N (both-held l r) q ≡ held-at N (one-held l) q
+without-right N l r q n = grind arith
 
-pub two-edge-r : (N l r q : ℕ) → cell N r ≡ false → ((eqb q l || eqb q r) && cell N q) ≡ (eqb q l && cell N q)
-two-edge-r N l r q e = grind arith
-
-pub one-other : (N l r : ℕ) → l ≢ r → (eqb l r && cell N l) ≡ false
-one-other N l r n = grind arith
+pub edge-right : (N l r q : ℕ) → cell N r ≡ false → held-at N (both-held l r) q ≡ held-at N (one-held l) q
+edge-right N l r q e = grind arith

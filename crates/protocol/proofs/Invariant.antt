@@ -91,8 +91,8 @@ module _ {K : Type 0} {N : ℕ} (κ : Lawful K N) where
   Right-answer k nothing S = Unit {0}
   Right-answer k (took a) S =
       (one-worker (κ .kind) S k .1 ≡ a) ×
-        ((x : K) (p : ℕ) → S p ≡ holds x → (q : ℕ) × (one-worker (κ .kind) S k .0 q ≡ holds x))
-        × (a ≡ Inserted → (q : ℕ) × (one-worker (κ .kind) S k .0 q ≡ holds k))
+      ((x : K) (p : ℕ) → S p ≡ holds x → (q : ℕ) × (one-worker (κ .kind) S k .0 q ≡ holds x))
+      × (a ≡ Inserted → (q : ℕ) × (one-worker (κ .kind) S k .0 q ≡ holds k))
 
   pub answer-same : (k : K) (S : ℕ → Content K) (a : Answer) → one-worker (κ .kind) S k ≡ (S, a) → (a ≡ Inserted → ⊥) → Right-answer k (took a) S
   answer-same k S a w n = (ap (λ z. z .1) w, λ x p h. (p, ap (λ z. z .0 p) w ∙ h), λ e. absurd (n e))
@@ -183,7 +183,9 @@ module _ {K : Type 0} {N : ℕ} (κ : Lawful K N) where
   pub region-mark : {T : ℕ → Content K} {M : ℕ → Bool} {k : K} {l r : ℕ} (p : ℕ) → T p ≡ empty → Region T M k l r → Region T (updated M p true) k l r
   region-mark {T} {M} p em g =
       record {
-        l-h = g .l-h; h-r = g .h-r; top = g .top;
+        l-h = g .l-h;
+        h-r = g .h-r;
+        top = g .top;
         solid = λ q x y. let z = g .solid q x y in (updated-other M p q true (λ i. not-both (sym (ap T i) ∙ em) (z .1)) ∙ z .0, z .1);
       }
 
@@ -270,19 +272,19 @@ module _ {K : Type 0} {N : ℕ} (κ : Lawful K N) where
           edge-low = e0;
           edge-high = eN;
           owned = λ t p. ⊎-elim
-            (λ (e : s ≡ t). ap (λ x. holder N x p) (updated-at st s t next e) ∙ own-s p ∙ ap (λ i. is-by i (O′ p)) e)
-            (λ n. ap (λ x. holder N x p) (updated-other st s t next n) ∙ c .owned t p ∙ own-t t p n)
-            (cases-eq s t);
+              (λ (e : s ≡ t). ap (λ x. holder N x p) (updated-at st s t next e) ∙ own-s p ∙ ap (λ i. is-by i (O′ p)) e)
+              (λ n. ap (λ x. holder N x p) (updated-other st s t next n) ∙ c .owned t p ∙ own-t t p n)
+              (cases-eq s t);
           marks = mk;
           good = λ t. ⊎-elim
-            (λ (e : s ≡ t). subst (λ x. Good T′ M′ S′ (ky t) x) (sym (updated-at st s t next e)) (subst (λ i. Good T′ M′ S′ (ky i) next) e gd))
-            (λ n.
-               subst (λ x. Good T′ M′ S′ (ky t) x) (sym (updated-other st s t next n))
-                 (good-stable T T′ M M′ so S S′ (ky t) (st t) (λ p h. keep t p n h) (c .good t)))
-            (cases-eq s t);
+              (λ (e : s ≡ t). subst (λ x. Good T′ M′ S′ (ky t) x) (sym (updated-at st s t next e)) (subst (λ i. Good T′ M′ S′ (ky i) next) e gd))
+              (λ n.
+              subst (λ x. Good T′ M′ S′ (ky t) x) (sym (updated-other st s t next n))
+              (good-stable T T′ M M′ so S S′ (ky t) (st t) (λ p h. keep t p n h) (c .good t)))
+              (cases-eq s t);
           agree = λ p. ⊎-elim inl (⊎-elim
-            (λ h. inr (h .0, subst (λ x. In-shift x p) (sym (updated-other st s (h .0) next (h .1))) (h .2)))
-            (λ h. inr (s, subst (λ x. In-shift x p) (sym (updated-same st s next)) h))) (ag p);
+              (λ h. inr (h .0, subst (λ x. In-shift x p) (sym (updated-other st s (h .0) next (h .1))) (h .2)))
+              (λ h. inr (s, subst (λ x. In-shift x p) (sym (updated-same st s next)) h))) (ag p);
           sorted = sd;
         }
 
@@ -291,17 +293,17 @@ module _ {K : Type 0} {N : ℕ} (κ : Lawful K N) where
         → (S p ≡ T p) ⊎ (((t : ℕ) × (s ≢ t) × In-shift (st t) p) ⊎ In-shift next p)
     agree-still x next e sh p = ⊎-elim inl
         (λ h.
-           ⊎-elim
-             (λ (q : s ≡ h .0). inr (inr (sh p (subst (λ y. In-shift y p) (ap st (sym q) ∙ e) (h .1)))))
-             (λ n. inr (inl (h .0, n, h .1))) (cases-eq s (h .0)))
+        ⊎-elim
+        (λ (q : s ≡ h .0). inr (inr (sh p (subst (λ y. In-shift y p) (ap st (sym q) ∙ e) (h .1)))))
+        (λ n. inr (inl (h .0, n, h .1))) (cases-eq s (h .0)))
         (c .agree p)
 
     pub still : (x next : Stage) → st s ≡ x → ((p : ℕ) → holder N next p ≡ holder N x p) → ((p : ℕ) → In-shift x p → In-shift next p)
         → Good T M S (ky s) next → Core T M O ky (updated st s next) S
     still x next e ho sh gd =
         make T M O S next (c .edge-low) (c .edge-high)
-          (λ p. ho p ∙ ap (λ y. holder N y p) (sym e) ∙ c .owned s p) (λ t p n. refl) (c .marks) (λ p a. a) (λ t p n h. (refl, refl)) gd
-          (agree-still x next e sh) (c .sorted)
+        (λ p. ho p ∙ ap (λ y. holder N y p) (sym e) ∙ c .owned s p) (λ t p n. refl) (c .marks) (λ p a. a) (λ t p n h. (refl, refl)) gd
+        (agree-still x next e sh) (c .sorted)
 
     pub own : (x : Stage) → st s ≡ x → (p : ℕ) → holder N x p ≡ true → O p ≡ by s
     own x e p h = is-by-true s (O p) (sym (c .owned s p) ∙ ap (λ y. holder N y p) e ∙ h)
@@ -312,14 +314,14 @@ module _ {K : Type 0} {N : ℕ} (κ : Lawful K N) where
         → Core T (updated M p true) (updated O p (by s)) ky (updated st s next) S
     marking x next p e um em ho hp sh gd =
         make T (updated M p true) (updated O p (by s)) S next (c .edge-low) (c .edge-high)
-          (λ q. ⊎-elim (λ (z : p ≡ q). ap (holder N next) (sym z) ∙ hp ∙ sym (ap (is-by s) (updated-at O p q (by s) z) ∙ is-by-self s))
-                  (λ n. ho q n ∙ ap (λ y. holder N y q) (sym e) ∙ c .owned s q ∙ ap (is-by s) (sym (updated-other O p q (by s) n))) (cases-eq p q))
-          (λ t q n. ⊎-elim (λ (z : p ≡ q). not-by t q (sym (ap M z) ∙ um) ∙ sym (ap (is-by t) (updated-at O p q (by s) z) ∙ ne-eqb t s (λ w. n (sym w))))
-                      (λ n′. ap (is-by t) (sym (updated-other O p q (by s) n′))) (cases-eq p q))
-          (λ q. ⊎-elim (λ (z : p ≡ q). updated-at M p q true z ∙ ap taken (sym (updated-at O p q (by s) z)))
-                  (λ n. updated-other M p q true n ∙ c .marks q ∙ ap taken (sym (updated-other O p q (by s) n))) (cases-eq p q))
-          (λ q h. (updated-other M p q true (λ z. not-both (sym (ap T z) ∙ em) (h .1)) ∙ h .0, h .1))
-          (λ t q n h. (refl, refl)) gd (agree-still x next e sh) (c .sorted)
+        (λ q. ⊎-elim (λ (z : p ≡ q). ap (holder N next) (sym z) ∙ hp ∙ sym (ap (is-by s) (updated-at O p q (by s) z) ∙ is-by-self s))
+        (λ n. ho q n ∙ ap (λ y. holder N y q) (sym e) ∙ c .owned s q ∙ ap (is-by s) (sym (updated-other O p q (by s) n))) (cases-eq p q))
+        (λ t q n. ⊎-elim (λ (z : p ≡ q). not-by t q (sym (ap M z) ∙ um) ∙ sym (ap (is-by t) (updated-at O p q (by s) z) ∙ ne-eqb t s (λ w. n (sym w))))
+        (λ n′. ap (is-by t) (sym (updated-other O p q (by s) n′))) (cases-eq p q))
+        (λ q. ⊎-elim (λ (z : p ≡ q). updated-at M p q true z ∙ ap taken (sym (updated-at O p q (by s) z)))
+        (λ n. updated-other M p q true n ∙ c .marks q ∙ ap taken (sym (updated-other O p q (by s) n))) (cases-eq p q))
+        (λ q h. (updated-other M p q true (λ z. not-both (sym (ap T z) ∙ em) (h .1)) ∙ h .0, h .1))
+        (λ t q n h. (refl, refl)) gd (agree-still x next e sh) (c .sorted)
       where
         not-by : (t q : ℕ) → M q ≡ false → is-by t (O q) ≡ false
         not-by t q m = go (O q) (sym (c .marks q) ∙ m)
@@ -334,11 +336,11 @@ module _ {K : Type 0} {N : ℕ} (κ : Lawful K N) where
         → Core T (updated M p false) (updated O p free) ky (updated st s next) S
     unmarking x next p e ow ho hp sh gd =
         make T (updated M p false) (updated O p free) S next (c .edge-low) (c .edge-high)
-          (λ q. ⊎-elim (λ (z : p ≡ q). ap (holder N next) (sym z) ∙ hp ∙ sym (ap (is-by s) (updated-at O p q free z)))
-                  (λ n. ho q n ∙ ap (λ y. holder N y q) (sym e) ∙ c .owned s q ∙ ap (is-by s) (sym (updated-other O p q free n))) (cases-eq p q))
-          (λ t q n. ⊎-elim (λ (z : p ≡ q). ap (is-by t) (sym (ap O z) ∙ ow) ∙ ne-eqb t s (λ w. n (sym w)) ∙ sym (ap (is-by t) (updated-at O p q free z)))
-                      (λ n′. ap (is-by t) (sym (updated-other O p q free n′))) (cases-eq p q))
-          (λ q. ⊎-elim (λ (z : p ≡ q). updated-at M p q false z ∙ ap taken (sym (updated-at O p q free z)))
-                  (λ n. updated-other M p q false n ∙ c .marks q ∙ ap taken (sym (updated-other O p q free n))) (cases-eq p q))
-          (λ q h. (⊎-elim (λ (z : p ≡ q). updated-at M p q false z) (λ n. updated-other M p q false n ∙ h .0) (cases-eq p q), h .1))
-          (λ t q n h. (refl, refl)) gd (agree-still x next e sh) (c .sorted)
+        (λ q. ⊎-elim (λ (z : p ≡ q). ap (holder N next) (sym z) ∙ hp ∙ sym (ap (is-by s) (updated-at O p q free z)))
+        (λ n. ho q n ∙ ap (λ y. holder N y q) (sym e) ∙ c .owned s q ∙ ap (is-by s) (sym (updated-other O p q free n))) (cases-eq p q))
+        (λ t q n. ⊎-elim (λ (z : p ≡ q). ap (is-by t) (sym (ap O z) ∙ ow) ∙ ne-eqb t s (λ w. n (sym w)) ∙ sym (ap (is-by t) (updated-at O p q free z)))
+        (λ n′. ap (is-by t) (sym (updated-other O p q free n′))) (cases-eq p q))
+        (λ q. ⊎-elim (λ (z : p ≡ q). updated-at M p q false z ∙ ap taken (sym (updated-at O p q free z)))
+        (λ n. updated-other M p q false n ∙ c .marks q ∙ ap taken (sym (updated-other O p q free n))) (cases-eq p q))
+        (λ q h. (⊎-elim (λ (z : p ≡ q). updated-at M p q false z) (λ n. updated-other M p q false n ∙ h .0) (cases-eq p q), h .1))
+        (λ t q n h. (refl, refl)) gd (agree-still x next e sh) (c .sorted)

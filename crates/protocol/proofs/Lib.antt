@@ -14,7 +14,8 @@ pub mod Effects
 pub mod Named
 pub mod Places
 pub mod Ends
-pub mod Barred
+pub mod Checked
+pub mod Refused
 pub mod Preserved
 pub mod Kept
 pub mod Whole

@@ -165,7 +165,7 @@ module _ {K : Type 0} {N : ℕ} (κ : Lawful K N) (k : K) (T : ℕ → Content K
   named-kept (Check l r p) h =
       let i = of-three N l r p h in
       check-named l r (i .0) (i .1) (is-after (versus (κ .kind) k (T (κ .kind .place k))))
-        (walk-at (κ .kind .place k) p (versus (κ .kind) k (T p))) (walk-named p (i .2) (versus (κ .kind) k (T p)) refl)
+      (walk-at (κ .kind .place k) p (versus (κ .kind) k (T p))) (walk-named p (i .2) (versus (κ .kind) k (T p)) refl)
   named-kept (Shift d l r g) h = let i = of-gap N l r g h in shift-named d l r g (i .0) (i .1) (i .2) (T (beside d g)) refl
   named-kept (ReleaseLeft l r a) h = let i = of-two N l r h in release-named l (cell N l) (ReleaseRight r a) (one N r (i .1))
   named-kept (ReleaseRight r a) h = release-named r (cell N r) (Answered a) refl

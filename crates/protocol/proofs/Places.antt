@@ -109,15 +109,15 @@ module _ {K : Type 0} where
   contents-put x (suc i) cs e zero = sym (updated-other (contents cs) (suc i) zero (holds x) (omega arith))
   contents-put x (suc i) cs e (suc j) =
       ⊎-elim
-        (λ (z : i ≡ j). ⊎-elim
-          (λ (lt : i < length cs).
-             ap (content-at (alter (with-key x) i cs)) (sym z)
-             ∙ content-put x i cs lt
-             ∙ sym (updated-at (contents cs) (suc i) (suc j) (holds x) (ap suc z)))
-          (λ le. ap (λ y. content-at y j) (alter-past (with-key x) i cs le) ∙ content-past cs j (omega arith) ∙ sym (e (suc j) (inr (omega arith))))
-          (cases-lt i (length cs)))
-        (λ n. content-other (with-key x) i cs j n ∙ sym (updated-other (contents cs) (suc i) (suc j) (holds x) (omega arith)))
-        (cases-eq i j)
+      (λ (z : i ≡ j). ⊎-elim
+      (λ (lt : i < length cs).
+      ap (content-at (alter (with-key x) i cs)) (sym z)
+      ∙ content-put x i cs lt
+      ∙ sym (updated-at (contents cs) (suc i) (suc j) (holds x) (ap suc z)))
+      (λ le. ap (λ y. content-at y j) (alter-past (with-key x) i cs le) ∙ content-past cs j (omega arith) ∙ sym (e (suc j) (inr (omega arith))))
+      (cases-lt i (length cs)))
+      (λ n. content-other (with-key x) i cs j n ∙ sym (updated-other (contents cs) (suc i) (suc j) (holds x) (omega arith)))
+      (cases-eq i j)
 
   marks-mark : (b : Bool) (p : ℕ) (cs : List (Cell K)) → ((q : ℕ) → (q ≡ 0) ⊎ (length cs < q) → updated (marks cs) p b q ≡ false) → (q : ℕ)
       → marks (alter-place (with-mark b) p cs) q ≡ updated (marks cs) p b q
@@ -126,13 +126,13 @@ module _ {K : Type 0} where
   marks-mark b (suc i) cs e zero = sym (updated-other (marks cs) (suc i) zero b (omega arith))
   marks-mark b (suc i) cs e (suc j) =
       ⊎-elim
-        (λ (z : i ≡ j). ⊎-elim
-          (λ (lt : i < length cs).
-             ap (marked-at (alter (with-mark b) i cs)) (sym z) ∙ marked-mark b i cs lt ∙ sym (updated-at (marks cs) (suc i) (suc j) b (ap suc z)))
-          (λ le. ap (λ y. marked-at y j) (alter-past (with-mark b) i cs le) ∙ marked-past cs j (omega arith) ∙ sym (e (suc j) (inr (omega arith))))
-          (cases-lt i (length cs)))
-        (λ n. marked-other (with-mark b) i cs j n ∙ sym (updated-other (marks cs) (suc i) (suc j) b (omega arith)))
-        (cases-eq i j)
+      (λ (z : i ≡ j). ⊎-elim
+      (λ (lt : i < length cs).
+      ap (marked-at (alter (with-mark b) i cs)) (sym z) ∙ marked-mark b i cs lt ∙ sym (updated-at (marks cs) (suc i) (suc j) b (ap suc z)))
+      (λ le. ap (λ y. marked-at y j) (alter-past (with-mark b) i cs le) ∙ marked-past cs j (omega arith) ∙ sym (e (suc j) (inr (omega arith))))
+      (cases-lt i (length cs)))
+      (λ n. marked-other (with-mark b) i cs j n ∙ sym (updated-other (marks cs) (suc i) (suc j) b (omega arith)))
+      (cases-eq i j)
 
   contents-act : (a : Act K) (cs : List (Cell K)) → ((q : ℕ) → (q ≡ 0) ⊎ (length cs < q) → contents-after a (contents cs) q ≡ empty) → (q : ℕ)
       → contents (cells-after a cs) q ≡ contents-after a (contents cs) q
@@ -158,9 +158,10 @@ module _ {K : Type 0} where
       → contents-after a (contents cs) 0 ≡ empty → ((p : ℕ) → n < p → contents-after a (contents cs) p ≡ empty)
       → ((p : ℕ) → (p ≡ 0) ⊎ (n < p) → marks-after a (marks cs) p ≡ false)
       → Acted a cs
-  acted a cs n size low high none-marked =
-      (contents-act a cs (λ q o. ⊎-elim (λ (z : q ≡ 0). ap (contents-after a (contents cs)) z ∙ low) (λ lt. high q lt) (off q o)),
-       marks-act a cs (λ q o. none-marked q (off q o)))
+  acted a cs n size low high none-marked = (
+    contents-act a cs (λ q o. ⊎-elim (λ (z : q ≡ 0). ap (contents-after a (contents cs)) z ∙ low) (λ lt. high q lt) (off q o)),
+    marks-act a cs (λ q o. none-marked q (off q o)),
+  )
     where
       off : (q : ℕ) → (q ≡ 0) ⊎ (length cs < q) → (q ≡ 0) ⊎ (n < q)
       off q = ⊎-elim inl (λ lt. inr (omega (arith, size)))

@@ -53,12 +53,12 @@ watched-owner s free (by t) h = ⊎-elim (λ (e : s ≡ t). sym (eq-eqb s t e)) 
 watched-owner s (by t) free h = refl
 watched-owner s (by t) (by u) h =
     ⊎-elim
-      (λ (e : s ≡ t).
-         ⊎-elim (λ (f : s ≡ u). eq-eqb s t e ∙ sym (eq-eqb s u f))
-           (λ n. absurd (both-ways (is-by u (by t)) (ne-eqb u t (λ z. n (e ∙ sym z))) (h u n ∙ is-by-self u)))
-           (cases-eq s u))
-      (λ n. ap (eqb s) (eqb-true t u (sym (h t n) ∙ is-by-self t)))
-      (cases-eq s t)
+    (λ (e : s ≡ t).
+    ⊎-elim (λ (f : s ≡ u). eq-eqb s t e ∙ sym (eq-eqb s u f))
+    (λ n. absurd (both-ways (is-by u (by t)) (ne-eqb u t (λ z. n (e ∙ sym z))) (h u n ∙ is-by-self u)))
+    (cases-eq s u))
+    (λ n. ap (eqb s) (eqb-true t u (sym (h t n) ∙ is-by-self t)))
+    (cases-eq s t)
 
 module _ {K : Type 0} {N : ℕ} (κ : Lawful K N) where
   module _ {T : ℕ → Content K} {M : ℕ → Bool} {O : ℕ → Owner} {ky : ℕ → K} {st : ℕ → Stage} {S : ℕ → Content K} (c : Core κ T M O ky st S) (s : ℕ) where
@@ -99,8 +99,8 @@ module _ {K : Type 0} {N : ℕ} (κ : Lawful K N) where
         let a = around κ c s p (subst (λ y. In-shift y p) (sym e) i) in
         let lh = a .closed-region .region .l-h in let hr = a .closed-region .region .h-r in let hN = κ .place-high (ky s) in
         let none : (q : ℕ) → O q ≡ by s → ⊥ = λ q o. both-ways false refl
-          (no-holder N (held-by x) h q ∙ ap (λ y. holder N y q) (sym e) ∙ c .owned s q ∙ ap (is-by s) o ∙ is-by-self s)
-          in
+        (no-holder N (held-by x) h q ∙ ap (λ y. holder N y q) (sym e) ∙ c .owned s q ∙ ap (is-by s) o ∙ is-by-self s)
+        in
         ⊎-elim (λ z. none (a .l) (a .closed-region .own-l z)) (λ z. none (a .r) (a .closed-region .own-r z)) (a .some-cell)
 
     leave-core : (x : Stage) → st s ≡ x → holds-mark N x ≡ false → Core κ T M O ky (updated st s Idle) S
@@ -111,11 +111,16 @@ module _ {K : Type 0} {N : ℕ} (κ : Lawful K N) where
     rekey-core k x e ho gd =
         let d = still κ c s Idle x e ho (λ p i. absurd i) (gd (ky s)) in
         record {
-          edge-low = d .edge-low; edge-high = d .edge-high; owned = d .owned; marks = d .marks; agree = d .agree; sorted = d .sorted;
+          edge-low = d .edge-low;
+          edge-high = d .edge-high;
+          owned = d .owned;
+          marks = d .marks;
+          agree = d .agree;
+          sorted = d .sorted;
           good = λ t. ⊎-elim
-            (λ (z : s ≡ t). subst (λ y. Good κ T M S (updated ky s k t) y) (sym (updated-at st s t x z)) (gd (updated ky s k t)))
-            (λ n. subst (λ y. Good κ T M S y (updated st s x t)) (sym (updated-other ky s t k n)) (d .good t))
-            (cases-eq s t);
+              (λ (z : s ≡ t). subst (λ y. Good κ T M S (updated ky s k t) y) (sym (updated-at st s t x z)) (gd (updated ky s k t)))
+              (λ n. subst (λ y. Good κ T M S y (updated st s x t)) (sym (updated-other ky s t k n)) (d .good t))
+              (cases-eq s t);
         }
 
   core-ext : {T : ℕ → Content K} {M : ℕ → Bool} {O : ℕ → Owner} {ky ky′ : ℕ → K} {st st′ : ℕ → Stage} {S S′ : ℕ → Content K}
@@ -145,13 +150,14 @@ module _ {K : Type 0} {N : ℕ} (κ : Lawful K N) where
   noting es k (took a) ok n r =
       record {
         alike = (n .alike, r .0);
-        new-once =
-          (n .new-once,
-           λ e h.
-             let q = n .new-in k h in
-             let i = inside κ ok (q .0) k (q .1) in
-             let f = ap (λ z. z .1) (worker-found κ (table (κ .kind) es) k (q .0) ok (q .1) (i .0) (i .1)) in
-             let z : _≡_ {A = ℕ} 0 1 = cc (sym f ∙ r .0 ∙ e) in omega arith);
+        new-once = (
+          n .new-once,
+          λ e h.
+              let q = n .new-in k h in
+              let i = inside κ ok (q .0) k (q .1) in
+              let f = ap (λ z. z .1) (worker-found κ (table (κ .kind) es) k (q .0) ok (q .1) (i .0) (i .1)) in
+              let z : _≡_ {A = ℕ} 0 1 = cc (sym f ∙ r .0 ∙ e) in omega arith,
+        );
         new-in = λ x h. go x h;
       }
     where
@@ -167,18 +173,18 @@ module _ {K : Type 0} {N : ℕ} (κ : Lawful K N) where
   module _ (w : State K) (i : Inv w) (s : ℕ) where
     pub with-inv : (t : Station K) (u : Bool)
         → Core κ (w .contents) (w .marked) (i .owner) (updated (λ t. w .station t .key) s (t .key))
-          (updated (λ t. w .station t .stage) s (t .stage)) (table (κ .kind) (w .effects))
+        (updated (λ t. w .station t .stage) s (t .stage)) (table (κ .kind) (w .effects))
         → u ≡ busy (t .stage) → Inv (with-station w s t u)
     with-inv t u c b = record {
       owner = i .owner;
       core = core-ext (sym (updated-field (λ (x : Station K). x .key) (w .station) s t)) (sym (updated-field (λ (x : Station K). x .stage) (w .station) s t)) refl c;
       held-is = i .held-is;
       busy-is =
-        λ r.
+          λ r.
           ⊎-elim
-            (λ (e : s ≡ r). updated-at (w .unfinished) s r u e ∙ b ∙ ap (λ x. busy (x .stage)) (sym (updated-at (w .station) s r t e)))
-            (λ n. updated-other (w .unfinished) s r u n ∙ i .busy-is r ∙ ap (λ x. busy (x .stage)) (sym (updated-other (w .station) s r t n)))
-            (cases-eq s r);
+          (λ (e : s ≡ r). updated-at (w .unfinished) s r u e ∙ b ∙ ap (λ x. busy (x .stage)) (sym (updated-at (w .station) s r t e)))
+          (λ n. updated-other (w .unfinished) s r u n ∙ i .busy-is r ∙ ap (λ x. busy (x .stage)) (sym (updated-other (w .station) s r t n)))
+          (cases-eq s r);
       alike = i .alike;
       new-once = i .new-once;
       new-in = i .new-in;
@@ -188,7 +194,7 @@ module _ {K : Type 0} {N : ℕ} (κ : Lawful K N) where
     pub same-key : (x : Stage)
         → Core κ (w .contents) (w .marked) (i .owner) (λ t. w .station t .key) (updated (λ t. w .station t .stage) s x) (table (κ .kind) (w .effects))
         → Core κ (w .contents) (w .marked) (i .owner) (updated (λ t. w .station t .key) s (w .station s .key))
-          (updated (λ t. w .station t .stage) s x) (table (κ .kind) (w .effects))
+        (updated (λ t. w .station t .stage) s x) (table (κ .kind) (w .effects))
     same-key x c = core-ext (sym (updated-self (λ t. w .station t .key) s (w .station s .key) refl)) refl refl c
 
     pub rest-inv : (x : Stage) → w .station s .stage ≡ x → holds-mark N x ≡ false → Inv (with-station w s (idled (w .station s)) false)
@@ -197,8 +203,8 @@ module _ {K : Type 0} {N : ℕ} (κ : Lawful K N) where
     pub leaving-inv : Inv (with-station w s (leaving (w .station s)) (w .unfinished s))
     leaving-inv =
         with-inv (leaving (w .station s)) (w .unfinished s)
-          (same-key (w .station s .stage) (same-stage (i .core) s (w .station s .stage) refl))
-          (i .busy-is s)
+        (same-key (w .station s .stage) (same-stage (i .core) s (w .station s .stage) refl))
+        (i .busy-is s)
 
     pub rekey-inv : (k : K) → w .station s .stage ≡ Idle → Inv (with-station w s (record { key = k; stage = Idle; withdrawn = false }) false)
     rekey-inv k e = with-inv (record { key = k; stage = Idle; withdrawn = false }) false (rekey-core (i .core) s k Idle e (λ p. refl) (λ y. tt)) refl
@@ -211,25 +217,25 @@ module _ {K : Type 0} {N : ℕ} (κ : Lawful K N) where
     step-inv = record {
       owner = O′;
       core =
-        core-ext
+          core-ext
           (sym (updated-field (λ (y : Station K). y .key) (w .station) s t′ ∙ updated-self (λ r. w .station r .key) s (t .key) refl))
           (updated-twice (λ r. w .station r .stage) s (m .next) x ∙ sym (updated-field (λ (y : Station K). y .stage) (w .station) s t′))
           (table-noted (w .effects) (t .key) (m .effect))
           (settle-core (d .0) s (t .withdrawn) (m .next) (updated-same (λ r. w .station r .stage) s (m .next)));
       held-is = λ r p. ⊎-elim
-        (λ (e : s ≡ r). cond-true (eqb s r) (watched (w .marked p) (M′ p) (w .held s p)) (w .held r p) (eq-eqb s r e)
+          (λ (e : s ≡ r). cond-true (eqb s r) (watched (w .marked p) (M′ p) (w .held s p)) (w .held r p) (eq-eqb s r e)
           ∙ ap (λ b. watched b (M′ p) (w .held s p)) (i .core .marks p)
-            ∙ ap (λ b. watched (taken (O p)) b (w .held s p)) (d .0 .marks p)
-            ∙ ap (λ b. watched (taken (O p)) (taken (O′ p)) b) (i .held-is s p)
+          ∙ ap (λ b. watched (taken (O p)) b (w .held s p)) (d .0 .marks p)
+          ∙ ap (λ b. watched (taken (O p)) (taken (O′ p)) b) (i .held-is s p)
           ∙ watched-owner s (O p) (O′ p) (λ u n. others u p n) ∙ ap (λ j. is-by j (O′ p)) e)
-        (λ n. cond-false (eqb s r) (watched (w .marked p) (M′ p) (w .held s p)) (w .held r p) (ne-eqb s r n) ∙ i .held-is r p ∙ others r p n)
-        (cases-eq s r);
+          (λ n. cond-false (eqb s r) (watched (w .marked p) (M′ p) (w .held s p)) (w .held r p) (ne-eqb s r n) ∙ i .held-is r p ∙ others r p n)
+          (cases-eq s r);
       busy-is =
-        λ r.
+          λ r.
           ⊎-elim
-            (λ (e : s ≡ r). updated-at (w .unfinished) s r (busy x) e ∙ ap (λ y. busy (y .stage)) (sym (updated-at (w .station) s r t′ e)))
-            (λ n. updated-other (w .unfinished) s r (busy x) n ∙ i .busy-is r ∙ ap (λ y. busy (y .stage)) (sym (updated-other (w .station) s r t′ n)))
-            (cases-eq s r);
+          (λ (e : s ≡ r). updated-at (w .unfinished) s r (busy x) e ∙ ap (λ y. busy (y .stage)) (sym (updated-at (w .station) s r t′ e)))
+          (λ n. updated-other (w .unfinished) s r (busy x) n ∙ i .busy-is r ∙ ap (λ y. busy (y .stage)) (sym (updated-other (w .station) s r t′ n)))
+          (cases-eq s r);
       alike = log .alike;
       new-once = log .new-once;
       new-in = log .new-in;
@@ -237,27 +243,37 @@ module _ {K : Type 0} {N : ℕ} (κ : Lawful K N) where
       where
         t : Station K
         t = w .station s
+
         m : Decision K
         m = decide (κ .kind) (t .key) (t .stage) (w .contents) (w .marked)
+
         x : Stage
         x = settled (t .withdrawn) (m .next)
+
         t′ : Station K
         t′ = stepped-record t x
+
         O : ℕ → Owner
         O = i .owner
+
         O′ : ℕ → Owner
         O′ = owners-after s (m .act) O
+
         T′ : ℕ → Content K
         T′ = contents-after (m .act) (w .contents)
+
         M′ : ℕ → Bool
         M′ = marks-after (m .act) (w .marked)
+
         d : Done κ (i .core) s m
         d = step-core (i .core) s (t .stage) refl
+
         others : (u p : ℕ) → s ≢ u → is-by u (O p) ≡ is-by u (O′ p)
         others u p n =
             sym (i .core .owned u p) ∙ ap (λ y. holder N y p) (sym (updated-other (λ r. w .station r .stage) s u (m .next) n)) ∙ d .0 .owned u p
+
         log : Noted (noted (t .key) (m .effect) (w .effects))
         log =
             noting (w .effects) (t .key) (m .effect) (i .core .sorted)
-              (record { alike = i .alike; new-once = i .new-once; new-in = i .new-in })
-              (d .1)
+            (record { alike = i .alike; new-once = i .new-once; new-in = i .new-in })
+            (d .1)

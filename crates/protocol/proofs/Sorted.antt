@@ -28,11 +28,12 @@ module _ {K : Type 0} {N : ℕ} (κ : Lawful K N) where
     home-right e q x h lt s = ⊎-elim (λ a. a) (λ b. absurd (not-both h (ok .down q e x s b (omega arith)))) (cases-lt e (κ .kind .place x))
 
     pub inside : (p : ℕ) (x : K) → S p ≡ holds x → (0 < p) × (p ≤ N)
-    inside p x s =
-        (⊎-elim (λ a. a)
-           (λ b. absurd (not-both (ok .low) (holds-occupied (subst (λ i. S i ≡ holds x) (let z : p ≡ 0 = omega arith in z) s))))
-           (cases-lt 0 p),
-         ⊎-elim (λ a. absurd (not-both (ok .high p a) (holds-occupied s))) (λ b. b) (cases-lt N p))
+    inside p x s = (
+      ⊎-elim (λ a. a)
+          (λ b. absurd (not-both (ok .low) (holds-occupied (subst (λ i. S i ≡ holds x) (let z : p ≡ 0 = omega arith in z) s))))
+          (cases-lt 0 p),
+      ⊎-elim (λ a. absurd (not-both (ok .high p a) (holds-occupied s))) (λ b. b) (cases-lt N p),
+    )
 
   -- S′ is S with k at g, the other keys in the same order and at most one place away
   pub record More (S S′ : ℕ → Content K) (k : K) (g : ℕ) (R : ℕ → ℕ → Type 0) : Type 0 where
@@ -55,30 +56,30 @@ module _ {K : Type 0} {N : ℕ} (κ : Lawful K N) where
     more-asc : (p q : ℕ) (x y : K) → p < q → S′ p ≡ holds x → S′ q ≡ holds y → κ .kind .order x y ≡ before
     more-asc p q x y lt a b =
         ⊎-elim (λ (e : p ≡ g). rw (key-at p x e a) (m .above q y (omega arith) b))
-          (λ n. ⊎-elim (λ (e : q ≡ g). rw (key-at q y e b) (m .below p x (omega arith) a))
-            (λ n′.
-               let i = m .from p n in
-               let j = m .from q n′ in ok .asc (i .0) (j .0) x y (m .mono p q (i .0) (j .0) lt (i .1) (j .1)) (sym (i .2) ∙ a) (sym (j .2) ∙ b))
-            (cases-eq q g))
-          (cases-eq p g)
+        (λ n. ⊎-elim (λ (e : q ≡ g). rw (key-at q y e b) (m .below p x (omega arith) a))
+        (λ n′.
+        let i = m .from p n in
+        let j = m .from q n′ in ok .asc (i .0) (j .0) x y (m .mono p q (i .0) (j .0) lt (i .1) (j .1)) (sym (i .2) ∙ a) (sym (j .2) ∙ b))
+        (cases-eq q g))
+        (cases-eq p g)
 
     more-up : (p q : ℕ) (x : K) → S′ p ≡ holds x → p ≤ q → q ≤ κ .kind .place x → is-occupied (S′ q) ≡ true
     more-up p q x a le to =
         ⊎-elim
-          (λ (e : p ≡ g). let f : κ .kind .place x ≡ κ .kind .place k = ap (κ .kind .place) (key-at p x e a) in m .rise q (omega arith) (omega arith))
-          (λ n. ⊎-elim (λ (e : p ≡ q). holds-occupied (subst (λ i. S′ i ≡ holds x) e a))
-            (λ n′. let i = m .from p n in let c = m .near p (i .0) (i .1) in m .grown q (ok .up (i .0) q x (sym (i .2) ∙ a) (omega arith) to))
-            (cases-eq p q))
-          (cases-eq p g)
+        (λ (e : p ≡ g). let f : κ .kind .place x ≡ κ .kind .place k = ap (κ .kind .place) (key-at p x e a) in m .rise q (omega arith) (omega arith))
+        (λ n. ⊎-elim (λ (e : p ≡ q). holds-occupied (subst (λ i. S′ i ≡ holds x) e a))
+        (λ n′. let i = m .from p n in let c = m .near p (i .0) (i .1) in m .grown q (ok .up (i .0) q x (sym (i .2) ∙ a) (omega arith) to))
+        (cases-eq p q))
+        (cases-eq p g)
 
     more-down : (p q : ℕ) (x : K) → S′ p ≡ holds x → κ .kind .place x ≤ q → q ≤ p → is-occupied (S′ q) ≡ true
     more-down p q x a le to =
         ⊎-elim
-          (λ (e : p ≡ g). let f : κ .kind .place x ≡ κ .kind .place k = ap (κ .kind .place) (key-at p x e a) in m .fall q (omega arith) (omega arith))
-          (λ n. ⊎-elim (λ (e : p ≡ q). holds-occupied (subst (λ i. S′ i ≡ holds x) e a))
-            (λ n′. let i = m .from p n in let c = m .near p (i .0) (i .1) in m .grown q (ok .down (i .0) q x (sym (i .2) ∙ a) le (omega arith)))
-            (cases-eq p q))
-          (cases-eq p g)
+        (λ (e : p ≡ g). let f : κ .kind .place x ≡ κ .kind .place k = ap (κ .kind .place) (key-at p x e a) in m .fall q (omega arith) (omega arith))
+        (λ n. ⊎-elim (λ (e : p ≡ q). holds-occupied (subst (λ i. S′ i ≡ holds x) e a))
+        (λ n′. let i = m .from p n in let c = m .near p (i .0) (i .1) in m .grown q (ok .down (i .0) q x (sym (i .2) ∙ a) le (omega arith)))
+        (cases-eq p q))
+        (cases-eq p g)
 
     pub more-sorted : Sorted S′
     more-sorted = record { asc = more-asc; up = more-up; down = more-down; low = m .low; high = m .high }
@@ -91,8 +92,9 @@ between-only κ {S} ok k l r q sl sr lh hr z = (⊎-elim (λ a. a) (λ a. absurd
     low : q ≤ l → ⊥
     low a =
         ⊎-elim (λ (y : q ≡ l). not-both sl (holds-occupied (ap S (sym y) ∙ z)))
-          (λ n. let b = home-left κ ok l q k sl (omega arith) z in omega arith) (cases-eq q l)
+        (λ n. let b = home-left κ ok l q k sl (omega arith) z in omega arith) (cases-eq q l)
+
     high : r ≤ q → ⊥
     high a =
         ⊎-elim (λ (y : q ≡ r). not-both sr (holds-occupied (ap S (sym y) ∙ z)))
-          (λ n. let b = home-right κ ok r q k sr (omega arith) z in omega arith) (cases-eq q r)
+        (λ n. let b = home-right κ ok r q k sr (omega arith) z in omega arith) (cases-eq q r)

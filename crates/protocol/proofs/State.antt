@@ -36,7 +36,11 @@ module _ {K : Type 0} where
   with-station w s t u =
       record {
         contents =
-          w .contents; marked = w .marked; station = updated (w .station) s t; effects = w .effects; unfinished = updated (w .unfinished) s u;
+            w .contents;
+        marked = w .marked;
+        station = updated (w .station) s t;
+        effects = w .effects;
+        unfinished = updated (w .unfinished) s u;
         held = w .held;
       }
 

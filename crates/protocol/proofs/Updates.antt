@@ -21,8 +21,8 @@ pub updated-all : {A : Type 0} (P : ℕ → A → Type 0) (f : ℕ → A) (p : �
     → P q (updated f p a q)
 updated-all P f p a h o q =
     ⊎-elim
-      (λ (e : p ≡ q). subst (P q) (sym (updated-at f p q a e)) (subst (λ i. P i a) e h))
-      (λ n. subst (P q) (sym (updated-other f p q a n)) (o q n)) (cases-eq p q)
+    (λ (e : p ≡ q). subst (P q) (sym (updated-at f p q a e)) (subst (λ i. P i a) e h))
+    (λ n. subst (P q) (sym (updated-other f p q a n)) (o q n)) (cases-eq p q)
 
 -- an empty place is not occupied
 pub not-both : {K : Type 0} {c : Content K} → c ≡ empty → is-occupied c ≡ true → ⊥

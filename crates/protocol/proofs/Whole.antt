@@ -24,8 +24,9 @@ use Rattle.protocol.proofs.State.{State, marks-after, with-station, step-by}
 use Rattle.protocol.proofs.Effects.{given, once, noted-once}
 use Rattle.protocol.proofs.Places.{length-after, Acted, acted, contents-inside, nth-past}
 use Rattle.protocol.proofs.Ends.{left-over, Wide, Falls, falls, positive}
+use Rattle.protocol.proofs.Checked.{by-check}
 use Rattle.protocol.proofs.Preserved.{updated-twice, Inv, rest-inv, rekey-inv, begin-inv, step-inv}
-use Rattle.protocol.proofs.Kept.{by-check, idle-record, record-of, records-of, state, edge-unmarked, inv-ext, stepped-is, Kept, Goal}
+use Rattle.protocol.proofs.Kept.{idle-record, record-of, records-of, state, edge-unmarked, inv-ext, stepped-is, Kept, Goal}
 
 module _ {K : Type 0} {N : ℕ} (κ : Lawful K N) (filler : K) (w : World K) (g : Log K) (f : Kept κ filler w g) (k : K) where
   abbrev own-number : ℕ
@@ -61,7 +62,9 @@ module _ {K : Type 0} {N : ℕ} (κ : Lawful K N) (filler : K) (w : World K) (g 
   mid-start : Mid (w .cells) Home
   mid-start =
       record {
-        hd = g .held; inv = begin-inv κ (state filler w g) (f .inv) own-number k (ap (λ x. x .stage) own-idle); others = λ s p n. refl;
+        hd = g .held;
+        inv = begin-inv κ (state filler w g) (f .inv) own-number k (ap (λ x. x .stage) own-idle);
+        others = λ s p n. refl;
         size = f .size;
       }
 
@@ -69,34 +72,38 @@ module _ {K : Type 0} {N : ℕ} (κ : Lawful K N) (filler : K) (w : World K) (g 
   mid-step cs x d = record {
     hd = hd′;
     inv = inv-ext κ (step-by v own-number (fresh-at x) m (m .next)) (mid (cells-after (m .act) cs) (m .next) hd′) (act-is .0) (act-is .1)
-      (λ r. ap (λ z. z r) (sym (updated-twice (records-of filler (w .stations)) own-number (fresh-at x) (fresh-at (m .next)))))
-      (sym (noted-once k (g .effects) (m .effect) (given x) (given (m .next)) (once (κ .kind) k x (contents cs) (marks cs))))
-      (λ r. ap (λ z. z r) (sym (updated-twice (g .unfinished) own-number (busy x) (busy (m .next)))))
-      (λ r p. refl) after-it;
+        (λ r. ap (λ z. z r) (sym (updated-twice (records-of filler (w .stations)) own-number (fresh-at x) (fresh-at (m .next)))))
+        (sym (noted-once k (g .effects) (m .effect) (given x) (given (m .next)) (once (κ .kind) k x (contents cs) (marks cs))))
+        (λ r. ap (λ z. z r) (sym (updated-twice (g .unfinished) own-number (busy x) (busy (m .next)))))
+        (λ r p. refl) after-it;
     others =
-      λ s p n.
+        λ s p n.
         cond-false (eqb own-number s)
-          (watched (marks cs p) (marks-after (m .act) (marks cs) p) (d .hd own-number p))
-          (d .hd s p) (ne-eqb own-number s n)
+        (watched (marks cs p) (marks-after (m .act) (marks cs) p) (d .hd own-number p))
+        (d .hd s p) (ne-eqb own-number s n)
         ∙ d .others s p n;
     size = length-after (m .act) cs ∙ d .size;
   }
     where
       m : Decision K
       m = decision (κ .kind) cs k x
+
       v : State K
       v = mid cs x (d .hd)
+
       hd′ : ℕ → ℕ → Bool
       hd′ = λ s′ p. cond (eqb own-number s′) (watched (marks cs p) (marks-after (m .act) (marks cs) p) (d .hd own-number p)) (d .hd s′ p)
+
       after-it : Inv κ (step-by v own-number (fresh-at x) m (m .next))
       after-it =
           subst (Inv κ)
-            (stepped-is κ v own-number (fresh-at x) (updated-same (records-of filler (w .stations)) own-number (fresh-at x)))
-            (step-inv κ v (d .inv) own-number)
+          (stepped-is κ v own-number (fresh-at x) (updated-same (records-of filler (w .stations)) own-number (fresh-at x)))
+          (step-inv κ v (d .inv) own-number)
+
       act-is : Acted (m .act) cs
       act-is =
           acted (m .act) cs N (d .size) (after-it .core .edge-low) (after-it .core .edge-high)
-            (edge-unmarked κ (step-by v own-number (fresh-at x) m (m .next)) after-it)
+          (edge-unmarked κ (step-by v own-number (fresh-at x) m (m .next)) after-it)
 
   idle-held : (v : State K) → Inv κ v → (s : ℕ) → v .station s .stage ≡ Idle → (p : ℕ) → v .held s p ≡ false
   idle-held v i s e p = i .held-is s p ∙ sym (i .core .owned s p) ∙ ap (λ x. holder N x p) e
@@ -111,39 +118,39 @@ module _ {K : Type 0} {N : ℕ} (κ : Lawful K N) (filler : K) (w : World K) (g 
   mid-end : (cs : List (Cell K)) (x : Stage) → Mid cs x → holds-mark N x ≡ false → Kept κ filler (entered-cells cs) (entered-log (given x))
   mid-end cs x d h = record {
     inv = inv-ext κ v₂ (state filler (entered-cells cs) (entered-log (given x))) (λ p. refl) (λ p. refl)
-      (λ r.
-         ⊎-elim
-           (λ (z : own-number ≡ r). ap (records-of filler (w .stations)) (sym z) ∙ own-idle ∙ sym (updated-at (v₁ .station) own-number r (idle-record filler) z))
-           (λ n.
-              sym
-                (updated-other (v₁ .station) own-number r (idle-record filler) n
-                 ∙ updated-other (v .station) own-number r (idled (v .station own-number)) n
-                 ∙ updated-other (records-of filler (w .stations)) own-number r (fresh-at x) n))
-           (cases-eq own-number r))
-      refl
-      (λ r.
-         ⊎-elim
-           (λ (z : own-number ≡ r).
-              ap (g .unfinished) (sym z)
-              ∙ f .inv .busy-is own-number
-              ∙ ap (λ y. busy (y .stage)) own-idle
-              ∙ sym (updated-at (v₁ .unfinished) own-number r false z))
-           (λ n.
-              sym
-                (updated-other (v₁ .unfinished) own-number r false n
-                 ∙ updated-other (v .unfinished) own-number r false n
-                 ∙ updated-other (g .unfinished) own-number r (busy x) n))
-           (cases-eq own-number r))
-      (λ s p.
-         ⊎-elim
-           (λ (z : own-number ≡ s).
-              ap (λ y. g .held y p) (sym z)
-              ∙ idle-held (state filler w g) (f .inv) own-number (ap (λ y. y .stage) own-idle) p
-              ∙ sym
-                  (ap (λ y. d .hd y p) (sym z)
-                   ∙ idle-held v₂ i₂ own-number (ap (λ y. y .stage) (updated-same (v₁ .station) own-number (idle-record filler))) p))
-           (λ n. sym (d .others s p n)) (cases-eq own-number s))
-      i₂;
+        (λ r.
+        ⊎-elim
+        (λ (z : own-number ≡ r). ap (records-of filler (w .stations)) (sym z) ∙ own-idle ∙ sym (updated-at (v₁ .station) own-number r (idle-record filler) z))
+        (λ n.
+        sym
+        (updated-other (v₁ .station) own-number r (idle-record filler) n
+        ∙ updated-other (v .station) own-number r (idled (v .station own-number)) n
+        ∙ updated-other (records-of filler (w .stations)) own-number r (fresh-at x) n))
+        (cases-eq own-number r))
+        refl
+        (λ r.
+        ⊎-elim
+        (λ (z : own-number ≡ r).
+        ap (g .unfinished) (sym z)
+        ∙ f .inv .busy-is own-number
+        ∙ ap (λ y. busy (y .stage)) own-idle
+        ∙ sym (updated-at (v₁ .unfinished) own-number r false z))
+        (λ n.
+        sym
+        (updated-other (v₁ .unfinished) own-number r false n
+        ∙ updated-other (v .unfinished) own-number r false n
+        ∙ updated-other (g .unfinished) own-number r (busy x) n))
+        (cases-eq own-number r))
+        (λ s p.
+        ⊎-elim
+        (λ (z : own-number ≡ s).
+        ap (λ y. g .held y p) (sym z)
+        ∙ idle-held (state filler w g) (f .inv) own-number (ap (λ y. y .stage) own-idle) p
+        ∙ sym
+        (ap (λ y. d .hd y p) (sym z)
+        ∙ idle-held v₂ i₂ own-number (ap (λ y. y .stage) (updated-same (v₁ .station) own-number (idle-record filler))) p))
+        (λ n. sym (d .others s p n)) (cases-eq own-number s))
+        i₂;
     size = d .size;
     answers = f .answers;
     named = f .named;
@@ -151,12 +158,16 @@ module _ {K : Type 0} {N : ℕ} (κ : Lawful K N) (filler : K) (w : World K) (g 
     where
       v : State K
       v = mid cs x (d .hd)
+
       v₁ : State K
       v₁ = with-station v own-number (idled (v .station own-number)) false
+
       v₂ : State K
       v₂ = with-station v₁ own-number (idle-record filler) false
+
       i₁ : Inv κ v₁
       i₁ = rest-inv κ v (d .inv) own-number x (ap (λ y. y .stage) (updated-same (records-of filler (w .stations)) own-number (fresh-at x))) h
+
       i₂ : Inv κ v₂
       i₂ = rekey-inv κ v₁ i₁ own-number filler (ap (λ y. y .stage) (updated-same (v .station) own-number (idled (v .station own-number))))
 
@@ -181,14 +192,14 @@ module _ {K : Type 0} {N : ℕ} (κ : Lawful K N) (filler : K) (w : World K) (g 
       let o = alone (κ .kind) n k cs′ (m .next) in
       let d′ = mid-step cs x d in
       ⊎-elim (λ e. subst (λ y. Ended-kept (ends-by (standing y) (cs′, y) o)) (sym e) (mid-end cs′ Home (subst (Mid cs′) e d′) refl))
-        (λ h.
-           ends-kept cs′ (m .next) d′ (h .2) o
-             (λ b′. alone-kept n cs′ (m .next) d′ b′ (h .0) (omega arith)) (standing (m .next))
-             (stage-is (m .next)) refl)
-        (falls κ k (contents cs) (marks cs) (contents-inside cs N (d .size)) x b q)
+      (λ h.
+      ends-kept cs′ (m .next) d′ (h .2) o
+      (λ b′. alone-kept n cs′ (m .next) d′ b′ (h .0) (omega arith)) (standing (m .next))
+      (stage-is (m .next)) refl)
+      (falls κ k (contents cs) (marks cs) (contents-inside cs N (d .size)) x b q)
 
   pub entered-kept : Goal κ filler w g (enter k) (whole-entry (κ .kind) w k)
   unfolding whole-entry Goal Wide left-over
   entered-kept =
       by-check (λ o. Kept κ filler (o .0) (log-enter k (o .1) g)) (bad-size N) WrongSize w _ f
-        (λ _. alone-kept (enough N) (w .cells) Home mid-start refl tt (omega arith))
+      (λ _. alone-kept (enough N) (w .cells) Home mid-start refl tt (omega arith))

@@ -35,10 +35,10 @@ module _ {K : Type 0} where
   empty-left-is S l zero lt e o = absurd (omega arith)
   empty-left-is S l (suc h) lt e o =
       ⊎-elim (λ (q : l ≡ h). cond-false (is-occupied (S h)) (empty-left S h) h (empty-unoccupied (subst (λ i. S i ≡ empty) q e)) ∙ sym q)
-        (λ n.
-           cond-true (is-occupied (S h)) (empty-left S h) h (o h (omega arith) (omega arith))
-           ∙ empty-left-is S l h (omega arith) e (λ p a b. o p a (omega arith)))
-        (cases-eq l h)
+      (λ n.
+      cond-true (is-occupied (S h)) (empty-left S h) h (o h (omega arith) (omega arith))
+      ∙ empty-left-is S l h (omega arith) e (λ p a b. o p a (omega arith)))
+      (cases-eq l h)
 
   pub empty-right-is : (n : ℕ) (S : ℕ → Content K) (h r : ℕ) → h ≤ r → r ≤ h + n → S r ≡ empty → ((p : ℕ) → h ≤ p → p < r → is-occupied (S p) ≡ true)
       → empty-right S n h ≡ r
@@ -46,10 +46,10 @@ module _ {K : Type 0} where
   empty-right-is zero S h r le to e o = omega arith
   empty-right-is (suc n) S h r le to e o =
       ⊎-elim (λ (q : r ≡ h). cond-false (is-occupied (S h)) (empty-right S n (suc h)) h (empty-unoccupied (subst (λ i. S i ≡ empty) q e)) ∙ sym q)
-        (λ x.
-           cond-true (is-occupied (S h)) (empty-right S n (suc h)) h (o h (omega arith) (omega arith))
-           ∙ empty-right-is n S (suc h) r (omega arith) (omega arith) e (λ p a b. o p (omega arith) b))
-        (cases-eq r h)
+      (λ x.
+      cond-true (is-occupied (S h)) (empty-right S n (suc h)) h (o h (omega arith) (omega arith))
+      ∙ empty-right-is n S (suc h) r (omega arith) (omega arith) e (λ p a b. o p (omega arith) b))
+      (cases-eq r h)
 
   pub all-true : (n : ℕ) (S : ℕ → Content K) → ((p : ℕ) → 0 < p → p ≤ n → is-occupied (S p) ≡ true) → all-occupied n S ≡ true
   unfolding all-occupied
@@ -62,8 +62,8 @@ module _ {K : Type 0} where
   all-false zero S e a b h = absurd (omega arith)
   all-false (suc n) S e a b h =
       ⊎-elim (λ (q : e ≡ suc n). and-left (is-occupied (S (suc n))) (all-occupied n S) (empty-unoccupied (subst (λ i. S i ≡ empty) q h)))
-        (λ x. and-right (is-occupied (S (suc n))) (all-occupied n S) (all-false n S e a (omega arith) h))
-        (cases-eq e (suc n))
+      (λ x. and-right (is-occupied (S (suc n))) (all-occupied n S) (all-false n S e a (omega arith) h))
+      (cases-eq e (suc n))
 
 module _ {K : Type 0} {N : ℕ} (κ : Lawful K N) where
   pub is-higher : (k : K) (x : Content K) → versus (κ .kind) k x ≡ is after → higher (κ .kind) k x ≡ true
@@ -87,26 +87,26 @@ module _ {K : Type 0} {N : ℕ} (κ : Lawful K N) where
   slid-up zero S k b lt f s = absurd (omega arith)
   slid-up (suc r) S k b lt f s =
       ⊎-elim
-        (λ (e : b ≡ r). rw (slide-left-stop S k r (subst (λ i. higher (κ .kind) k (S i) ≡ false) e s)) (record {
-          gap = updated-at S (suc r) (suc b) (holds k) (omega arith);
-          under = λ p a. updated-other S (suc r) p (holds k) (omega arith);
-          above = λ p a. updated-other S (suc r) p (holds k) (omega arith);
-          moved = λ p a c. absurd (omega arith);
-        }))
-        (λ n. let S₁ = updated S (suc r) (S r) in
-              let other : (q : ℕ) → q ≤ r → S₁ q ≡ S q = λ q a. updated-other S (suc r) q (S r) (omega arith) in
-              let ih = slid-up r S₁ k b (omega arith) (λ q a c. rw (other q (omega arith)) (f q a (omega arith))) (rw (other b (omega arith)) s) in
-              rw (slide-left-more S k r (f r (omega arith) (omega arith))) (record {
-          gap = ih .gap;
-          under = λ p a. ih .under p a ∙ other p (omega arith);
-          above = λ p a. ih .above p (omega arith) ∙ updated-other S (suc r) p (S r) (omega arith);
-          moved =
+      (λ (e : b ≡ r). rw (slide-left-stop S k r (subst (λ i. higher (κ .kind) k (S i) ≡ false) e s)) (record {
+        gap = updated-at S (suc r) (suc b) (holds k) (omega arith);
+        under = λ p a. updated-other S (suc r) p (holds k) (omega arith);
+        above = λ p a. updated-other S (suc r) p (holds k) (omega arith);
+        moved = λ p a c. absurd (omega arith);
+      }))
+      (λ n. let S₁ = updated S (suc r) (S r) in
+      let other : (q : ℕ) → q ≤ r → S₁ q ≡ S q = λ q a. updated-other S (suc r) q (S r) (omega arith) in
+      let ih = slid-up r S₁ k b (omega arith) (λ q a c. rw (other q (omega arith)) (f q a (omega arith))) (rw (other b (omega arith)) s) in
+      rw (slide-left-more S k r (f r (omega arith) (omega arith))) (record {
+        gap = ih .gap;
+        under = λ p a. ih .under p a ∙ other p (omega arith);
+        above = λ p a. ih .above p (omega arith) ∙ updated-other S (suc r) p (S r) (omega arith);
+        moved =
             λ p a c.
-              ⊎-elim
-                (λ (e : p ≡ r). ih .above (suc p) (omega arith) ∙ updated-at S (suc r) (suc p) (S r) (omega arith) ∙ ap S (sym e))
-                (λ n′. ih .moved p a (omega arith) ∙ other p (omega arith)) (cases-eq p r);
-        }))
-        (cases-eq b r)
+            ⊎-elim
+            (λ (e : p ≡ r). ih .above (suc p) (omega arith) ∙ updated-at S (suc r) (suc p) (S r) (omega arith) ∙ ap S (sym e))
+            (λ n′. ih .moved p a (omega arith) ∙ other p (omega arith)) (cases-eq p r);
+      }))
+      (cases-eq b r)
 
   slide-right-stop : (n : ℕ) (S : ℕ → Content K) (k : K) (g : ℕ) → lower (κ .kind) k (S (suc g)) ≡ false
       → slide-right (κ .kind) n S k g ≡ updated S g (holds k)
@@ -124,34 +124,34 @@ module _ {K : Type 0} {N : ℕ} (κ : Lawful K N) where
   stopped-down : (n : ℕ) (S : ℕ → Content K) (k : K) (l f : ℕ) → f ≡ l → lower (κ .kind) k (S (suc f)) ≡ false
       → Slid-down S (slide-right (κ .kind) n S k l) k l f
   stopped-down n S k l f e s = rw (slide-right-stop n S k l (subst (λ i. lower (κ .kind) k (S (suc i)) ≡ false) e s)) (record {
-          gap = updated-at S l f (holds k) (omega arith);
-          under = λ p a. updated-other S l p (holds k) (omega arith);
-          above = λ p a. updated-other S l p (holds k) (omega arith);
-          moved = λ p a c. absurd (omega arith);
-        })
+    gap = updated-at S l f (holds k) (omega arith);
+    under = λ p a. updated-other S l p (holds k) (omega arith);
+    above = λ p a. updated-other S l p (holds k) (omega arith);
+    moved = λ p a c. absurd (omega arith);
+  })
 
   pub slid-down : (n : ℕ) (S : ℕ → Content K) (k : K) (l f : ℕ) → l ≤ f → f ≤ l + n → ((q : ℕ) → l < q → q ≤ f → lower (κ .kind) k (S q) ≡ true)
       → lower (κ .kind) k (S (suc f)) ≡ false → Slid-down S (slide-right (κ .kind) n S k l) k l f
   slid-down zero S k l f le to h s = stopped-down zero S k l f (omega arith) s
   slid-down (suc n) S k l f le to h s =
       ⊎-elim
-        (λ (e : f ≡ l). stopped-down (suc n) S k l f e s)
-        (λ x. let S₁ = updated S l (S (suc l)) in
-              let other : (q : ℕ) → l < q → S₁ q ≡ S q = λ q a. updated-other S l q (S (suc l)) (omega arith) in
-              let ih = slid-down n S₁ k (suc l) f (omega arith) (omega arith)
-                (λ q a c. rw (other q (omega arith)) (h q (omega arith) c)) (rw (other (suc f) (omega arith)) s)
-                in
-              rw (slide-right-more n S k l (h (suc l) (omega arith) (omega arith))) (record {
-          gap = ih .gap;
-          under = λ p a. ih .under p (omega arith) ∙ updated-other S l p (S (suc l)) (omega arith);
-          above = λ p a. ih .above p a ∙ other p (omega arith);
-          moved =
+      (λ (e : f ≡ l). stopped-down (suc n) S k l f e s)
+      (λ x. let S₁ = updated S l (S (suc l)) in
+      let other : (q : ℕ) → l < q → S₁ q ≡ S q = λ q a. updated-other S l q (S (suc l)) (omega arith) in
+      let ih = slid-down n S₁ k (suc l) f (omega arith) (omega arith)
+      (λ q a c. rw (other q (omega arith)) (h q (omega arith) c)) (rw (other (suc f) (omega arith)) s)
+      in
+      rw (slide-right-more n S k l (h (suc l) (omega arith) (omega arith))) (record {
+        gap = ih .gap;
+        under = λ p a. ih .under p (omega arith) ∙ updated-other S l p (S (suc l)) (omega arith);
+        above = λ p a. ih .above p a ∙ other p (omega arith);
+        moved =
             λ p a c.
-              ⊎-elim
-                (λ (e : p ≡ l). ih .under p (omega arith) ∙ updated-at S l p (S (suc l)) (omega arith) ∙ ap (λ i. S (suc i)) (sym e))
-                (λ n′. ih .moved p (omega arith) c ∙ other (suc p) (omega arith)) (cases-eq p l);
-        }))
-        (cases-eq f l)
+            ⊎-elim
+            (λ (e : p ≡ l). ih .under p (omega arith) ∙ updated-at S l p (S (suc l)) (omega arith) ∙ ap (λ i. S (suc i)) (sym e))
+            (λ n′. ih .moved p (omega arith) c ∙ other (suc p) (omega arith)) (cases-eq p l);
+      }))
+      (cases-eq f l)
 
   not-same : (k : K) (c : Content K) → (c ≡ holds k → ⊥) → equal (κ .kind) k c ≡ false
   not-same k empty a = refl
@@ -170,9 +170,9 @@ module _ {K : Type 0} {N : ℕ} (κ : Lawful K N) where
   has-true zero S k q a b e = absurd (omega arith)
   has-true (suc n) S k q a b e =
       ⊎-elim
-        (λ (z : q ≡ suc n). or-left (equal (κ .kind) k (S (suc n))) (has (κ .kind) n S k) (is-there k (S (suc n)) (subst (λ i. S i ≡ holds k) z e)))
-        (λ x. or-right (equal (κ .kind) k (S (suc n))) (has (κ .kind) n S k) (has-true n S k q a (omega arith) e))
-        (cases-eq q (suc n))
+      (λ (z : q ≡ suc n). or-left (equal (κ .kind) k (S (suc n))) (has (κ .kind) n S k) (is-there k (S (suc n)) (subst (λ i. S i ≡ holds k) z e)))
+      (λ x. or-right (equal (κ .kind) k (S (suc n))) (has (κ .kind) n S k) (has-true n S k q a (omega arith) e))
+      (cases-eq q (suc n))
 
   has-false : (n : ℕ) (S : ℕ → Content K) (k : K) → ((q : ℕ) → S q ≡ holds k → ⊥) → has (κ .kind) n S k ≡ false
   unfolding has
@@ -188,9 +188,9 @@ module _ {K : Type 0} {N : ℕ} (κ : Lawful K N) where
   unfolding one-worker
   worker-found S k q ok e a b =
       let o : is-occupied (S (κ .kind .place k)) ≡ true = ⊎-elim
-        (λ (c : κ .kind .place k < q). ok .down q (κ .kind .place k) k e (omega arith) (omega arith))
-        (λ c. ok .up q (κ .kind .place k) k e c (omega arith)) (cases-lt (κ .kind .place k) q)
-        in
+      (λ (c : κ .kind .place k < q). ok .down q (κ .kind .place k) k e (omega arith) (omega arith))
+      (λ c. ok .up q (κ .kind .place k) k e c (omega arith)) (cases-lt (κ .kind .place k) q)
+      in
       ap (λ b. unless-home (κ .kind) b S k) o ∙ ap (λ b. unless-found (κ .kind) b S k) (has-true N S k q a b e)
 
   pub worker-full : (S : ℕ → Content K) (k : K) → ((q : ℕ) → S q ≡ holds k → ⊥) → ((p : ℕ) → 0 < p → p ≤ N → is-occupied (S p) ≡ true)

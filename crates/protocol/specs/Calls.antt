@@ -89,9 +89,9 @@ Slip-numbers = ℕ × ℕ
 unfoldable pub beginning : {K : Type 0} → ℕ → World K → ℕ → K → Out K Slip-numbers
 beginning N w s k =
     refused-if (bad-size N) WrongSize w
-      (at-station w s
-        (λ t. refused-if (not (is-idle (t .stage))) NotIdle w
-          (put-record w s (fresh k), Ok (w .number, s))))
+    (at-station w s
+    (λ t. refused-if (not (is-idle (t .stage))) NotIdle w
+    (put-record w s (fresh k), Ok (w .number, s))))
 
 -- COLLECTING: an answered entry gives its answer, and its station becomes idle
 abbrev pub collecting-at : {K : Type 0} → World K → ℕ → Station K → Standing → Out K Answer
@@ -103,10 +103,10 @@ collecting-at w s t (done a) = (put-record w s (idled t), Ok a)
 unfoldable pub collecting : {K : Type 0} → ℕ → World K → ℕ → ℕ → Out K Answer
 collecting N w number s =
     refused-if (bad-size N) WrongSize w
-      (refused-if (not (eqb number (w .number))) OtherRegister w
-        (at-station w s
-          (λ t. refused-if (t .withdrawn) NoEntry w
-            (collecting-at w s t (standing (t .stage))))))
+    (refused-if (not (eqb number (w .number))) OtherRegister w
+    (at-station w s
+    (λ t. refused-if (t .withdrawn) NoEntry w
+    (collecting-at w s t (standing (t .stage))))))
 
 -- WITHDRAWING: an entry that holds a mark is stepped on, any other is gone
 abbrev pub withdrawing-at : {K : Type 0} → World K → ℕ → Station K → Bool → Out K Departure
@@ -116,10 +116,10 @@ withdrawing-at w s t false = (put-record w s (idled t), Ok departure.Gone)
 unfoldable pub withdrawing : {K : Type 0} → ℕ → World K → ℕ → ℕ → Out K Departure
 withdrawing N w number s =
     refused-if (bad-size N) WrongSize w
-      (refused-if (not (eqb number (w .number))) OtherRegister w
-        (at-station w s
-          (λ t. refused-if (is-idle (t .stage) || t .withdrawn) NoEntry w
-            (withdrawing-at w s t (holds-mark N (t .stage))))))
+    (refused-if (not (eqb number (w .number))) OtherRegister w
+    (at-station w s
+    (λ t. refused-if (is-idle (t .stage) || t .withdrawn) NoEntry w
+    (withdrawing-at w s t (holds-mark N (t .stage))))))
 
 -- STEPPING: ANSWERED, IDLE or else GOES ON, by the stage that the step has led to
 abbrev pub says-by : Standing → Progress
@@ -149,10 +149,10 @@ decision κ cs k x = decide κ k x (contents cs) (marks cs)
 unfoldable pub stepping : {K : Type 0} {N : ℕ} → Kind K N → World K → ℕ → Out K Progress
 stepping {K} {N} κ w s =
     refused-if (bad-size N) WrongSize w
-      (at-station w s
-        (λ t. refused-if (not (busy (t .stage))) NoEntry w
-          (refused-if (not (names-cells N (t .stage))) NoCell w
-            (stepping-by w s t (decision κ (w .cells) (t .key) (t .stage))))))
+    (at-station w s
+    (λ t. refused-if (not (busy (t .stage))) NoEntry w
+    (refused-if (not (names-cells N (t .stage))) NoCell w
+    (stepping-by w s t (decision κ (w .cells) (t .key) (t .stage))))))
 
 -- WHOLE ENTRY: a fresh station's steps in one call; they end where one stays at home, returns to it or is answered
 abbrev pub ends-by : {A : Type 0} → Standing → A → A → A

@@ -1,5 +1,4 @@
 -- The worked examples of the rules, over trays.
--- a tray by its number
 use mathlib.Core.Path.{_≡_}
 use mathlib.Core.Bool.{true, false}
 use mathlib.Core.List.{List, [], _∷_}
@@ -18,6 +17,7 @@ use Rattle.protocol.specs.Calls.{Result, Ok, Err, Refusal, WrongSize, OtherReg
 use Rattle.protocol.specs.Turns.{Turn, begin, step, collect, withdraw, enter, turned}
 use Rattle.protocol.specs.OneWorker.{one-worker}
 
+-- a tray by its number
 abbrev pub tray : ℕ → Tray
 tray k = record { number = k }
 
@@ -66,6 +66,11 @@ unfoldable pub sayings : World Tray → ℕ → ℕ → List (Result Progress Re
 sayings w s zero = []
 sayings w s (suc n) = turned trayOrder trayHome w (step s) .1 ∷ sayings (does w (step s)) s n
 
+-- so many times the same, and then the rest
+abbrev pub times : {A : Type 0} → ℕ → A → List A → List A
+times zero a rest = rest
+times (suc n) a rest = a ∷ times n a rest
+
 -- the method for one worker on n empty cells: what it leaves at the places from p on, and what it answers
 unfoldable pub worked : ℕ → (ℕ → Content Tray) → List ℕ → ℕ → Content Tray
 worked n S [] = S
@@ -94,6 +99,14 @@ begun-100 = does (steps begun-400 0 6) (begin 1 (tray 100))
 abbrev pub withdrawn-400 : World Tray
 withdrawn-400 = does (steps begun-400 0 6) (withdraw 5 0)
 
+-- station 1 begins 400 too, and the two step by turns, so many times
+unfoldable pub by-turns : World Tray → ℕ → World Tray
+by-turns w zero = w
+by-turns w (suc n) = by-turns (does (does w (step 0)) (step 1)) n
+
+abbrev pub raced-400 : World Tray
+raced-400 = by-turns (does begun-400 (begin 1 (tray 400))) 20
+
 -- it has marked the left boundary when 900 takes the right one; then it is withdrawn
 abbrev pub overtaken-400 : World Tray
 overtaken-400 = does (does (steps begun-400 0 5) (enter (tray 900))) (withdraw 5 0)
@@ -105,9 +118,9 @@ wrong-record = record { number = 5; cells = old-cells 3; stations = record { key
 pub record Examples : Type 0 where
   -- ten cells and eight trays, by one worker and by whole entries
   pub ten-worker : places (worked 10 no-keys (145 ∷ 293 ∷ 297 ∷ 458 ∷ 553 ∷ 526 ∷ 841 ∷ 931 ∷ [])) 1 10
-    ≡ (holds 145 ∷ holds 293 ∷ holds 297 ∷ empty ∷ holds 458 ∷ holds 526 ∷ holds 553 ∷ empty ∷ holds 841 ∷ holds 931 ∷ [])
+      ≡ (holds 145 ∷ holds 293 ∷ holds 297 ∷ empty ∷ holds 458 ∷ holds 526 ∷ holds 553 ∷ empty ∷ holds 841 ∷ holds 931 ∷ [])
   pub ten : row (entering (register 10) (145 ∷ 293 ∷ 297 ∷ 458 ∷ 553 ∷ 526 ∷ 841 ∷ 931 ∷ []))
-    ≡ (holds 145 ∷ holds 293 ∷ holds 297 ∷ empty ∷ holds 458 ∷ holds 526 ∷ holds 553 ∷ empty ∷ holds 841 ∷ holds 931 ∷ [])
+      ≡ (holds 145 ∷ holds 293 ∷ holds 297 ∷ empty ∷ holds 458 ∷ holds 526 ∷ holds 553 ∷ empty ∷ holds 841 ∷ holds 931 ∷ [])
   -- two cells: two trays fill them, a third finds them full, and the second is found again
   pub two-worker : worker-answers 2 no-keys (100 ∷ 200 ∷ 300 ∷ 200 ∷ []) ≡ (Inserted ∷ Inserted ∷ Full ∷ Found ∷ [])
   pub two : answers (register 2) (100 ∷ 200 ∷ 300 ∷ 200 ∷ []) ≡ (Ok Inserted ∷ Ok Inserted ∷ Ok Full ∷ Ok Found ∷ [])
@@ -117,16 +130,19 @@ pub record Examples : Type 0 where
   pub three-2 : row (entering (register 3) (500 ∷ 400 ∷ [])) ≡ (empty ∷ holds 400 ∷ holds 500 ∷ [])
   pub three-3 : row (entering (register 3) (500 ∷ 400 ∷ 450 ∷ [])) ≡ (holds 400 ∷ holds 450 ∷ holds 500 ∷ [])
   -- three cells, 500 held: a station alone enters 400 in 12 steps, and no 13th is accepted
-  pub twelve : sayings begun-400 0 13
-    ≡ (Ok progress.GoesOn ∷ Ok progress.GoesOn ∷ Ok progress.GoesOn ∷ Ok progress.GoesOn ∷ Ok progress.GoesOn ∷ Ok progress.GoesOn ∷ Ok progress.GoesOn ∷ Ok progress.GoesOn ∷ Ok progress.GoesOn ∷ Ok progress.GoesOn ∷ Ok progress.GoesOn ∷ Ok progress.Answered ∷ Err NoEntry ∷ [])
+  pub twelve : sayings begun-400 0 13 ≡ times 11 (Ok progress.GoesOn) (Ok progress.Answered ∷ Err NoEntry ∷ [])
   pub twelve-collected : turned trayOrder trayHome (steps begun-400 0 12) (collect 5 0) .1 ≡ Ok Inserted
   pub twelve-cells : row (steps begun-400 0 12) ≡ (empty ∷ holds 400 ∷ holds 500 ∷ [])
+  -- two stations enter 400 by turns: it is new for one of them, and the other finds it
+  pub race-inserted : turned trayOrder trayHome raced-400 (collect 5 0) .1 ≡ Ok Inserted
+  pub race-found : turned trayOrder trayHome raced-400 (collect 5 1) .1 ≡ Ok Found
+  pub race-cells : row raced-400 ≡ (empty ∷ holds 400 ∷ holds 500 ∷ [])
   -- after its sixth step, 100 at another station stays at home
   pub home-said : turned trayOrder trayHome begun-100 (step 1) .1 ≡ Ok progress.GoesOn
   pub home-stays : nth (does begun-100 (step 1) .stations) 1 ≡ holds (record { key = tray 100; stage = Home; withdrawn = false })
   -- withdrawn then, the station goes on, and becomes idle where it would be answered; its key is new all the same
   pub withdrawn-said : turned trayOrder trayHome (steps begun-400 0 6) (withdraw 5 0) .1 ≡ Ok departure.GoesOn
-  pub withdrawn-steps : sayings withdrawn-400 0 6 ≡ (Ok progress.GoesOn ∷ Ok progress.GoesOn ∷ Ok progress.GoesOn ∷ Ok progress.GoesOn ∷ Ok progress.GoesOn ∷ Ok progress.Idle ∷ [])
+  pub withdrawn-steps : sayings withdrawn-400 0 6 ≡ times 5 (Ok progress.GoesOn) (Ok progress.Idle ∷ [])
   pub withdrawn-cells : row (steps withdrawn-400 0 6) ≡ (empty ∷ holds 400 ∷ holds 500 ∷ [])
   -- withdrawn with the right boundary lost, it gives the left one back, and becomes idle where it would return to home
   pub overtaken-steps : sayings overtaken-400 0 3 ≡ (Ok progress.GoesOn ∷ Ok progress.Idle ∷ Err NoEntry ∷ [])

@@ -49,17 +49,32 @@ pub enum Stage {
     /// Reads the key's home.
     Home,
     /// Looks for the key from home on, whatever the marks.
-    Look { at: usize },
+    Look {
+        at: usize,
+    },
     /// Looks for the left boundary.
-    Left { at: usize },
+    Left {
+        at: usize,
+    },
     /// Looks for the right boundary.
-    Right { left: usize, at: usize },
+    Right {
+        left: usize,
+        at: usize,
+    },
     /// Marks the left boundary.
-    FirstMark { left: usize, right: usize },
+    FirstMark {
+        left: usize,
+        right: usize,
+    },
     /// Marks the right boundary.
-    SecondMark { left: usize, right: usize },
+    SecondMark {
+        left: usize,
+        right: usize,
+    },
     /// Unmarks the left boundary, which is this cell, because the right one was not to be had.
-    GiveBack { cell: usize },
+    GiveBack {
+        cell: usize,
+    },
     /// Looks for the key once more, now that both boundaries are held.
     Check {
         left: usize,
@@ -80,9 +95,14 @@ pub enum Stage {
         answer: Answer,
     },
     /// Unmarks the right boundary.
-    ReleaseRight { right: usize, answer: Answer },
+    ReleaseRight {
+        right: usize,
+        answer: Answer,
+    },
     /// The entry waits to be collected.
-    Answered { answer: Answer },
+    Answered {
+        answer: Answer,
+    },
 }
 
 /// A station's record: the key being entered and its stage. An idle station keeps its last key.
@@ -170,11 +190,9 @@ impl Refusal {
 /// no key is new twice, marks are held as they should be, and all answers are those of one worker alone.
 pub fn protocol_is_safe<K: Key>()
     ensures { λ _. ⌜ Safe order home ⌝ }
-{
-}
+{}
 
 /// The worked examples of the rules, over trays.
 pub fn examples_hold()
     ensures { λ _. ⌜ Examples ⌝ }
-{
-}
+{}

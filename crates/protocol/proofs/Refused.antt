@@ -1,22 +1,26 @@
--- A whole entry that a mark bars has written nothing: both boundaries were just read empty and unmarked, and nobody else has had a turn since.
+-- A refused call has changed nothing. That is plain of every call but a whole entry that a mark bars:
+-- both boundaries were just read empty and unmarked, and nobody else has had a turn since, so it can only come home before its first mark.
 use mathlib.Core.Path.{_≡_, refl, sym, ap, _∙_, subst}
 use mathlib.Core.Logic.{inl, inr}
-use mathlib.Core.Bool.{Bool, true, false}
+use mathlib.Core.Bool.{Bool, true, false, not, _||_}
 use mathlib.Core.List.{List}
 use Prim.Native.Nat.{ℕ, zero, suc, _<_}
 use native.Mathlib.Omega.{arith}
+use lib.Dec.{eqb}
 use lib.ListN.{length}
 use Rattle.std.proofs.shelf.Tests.{both-ways}
 use Rattle.protocol.specs.declared.Cell.{Cell}
+use Rattle.protocol.specs.declared.Station.{Station}
 use Rattle.protocol.specs.Cells.{Content, empty, holds, cell, is-occupied, contents, marks, with-mark, alter-place, cells-after}
-use Rattle.protocol.specs.Stages.{Direction, Stage, Idle, Home, Look, Left, Right, FirstMark, SecondMark, GiveBack, Check, Shift, ReleaseLeft, ReleaseRight, Answered, Standing, resting, homing, under-way, done, standing}
+use Rattle.protocol.specs.Stages.{Direction, Stage, Idle, Home, Look, Left, Right, FirstMark, SecondMark, GiveBack, Check, Shift, ReleaseLeft, ReleaseRight, Answered, Standing, resting, homing, under-way, done, standing, busy, is-idle, holds-mark, names-cells}
 use Rattle.protocol.specs.Step.{before, same, after, Walk, Here, Ended, Onward, Decision, Versus, none, is, is-after, walk-at, beside, copy-due, at-home, at-look, at-left, at-right, at-first, at-second, absent, at-check, copied, release, versus, at-shift}
-use Rattle.protocol.specs.Calls.{Ok, Err, WrongSize, Barred, World, bad-size, decision, ends-by, alone, enough, whole-answer, whole-entry-by, whole-entry}
+use Rattle.protocol.specs.Calls.{Ok, Err, Refusal, WrongSize, OtherRegister, NotIdle, NoEntry, NoCell, World, bad-size, Out, beginning, collecting-at, collecting, withdrawing-at, withdrawing, decision, stepping, ends-by, alone, enough, whole-answer, whole-entry-by, whole-entry}
+use Rattle.protocol.specs.Turns.{Turn, begin, step, collect, withdraw, enter, turned-over}
 use Rattle.protocol.specs.Safety.{Ended-stage}
 use Rattle.protocol.proofs.Lawful.{Lawful}
 use Rattle.protocol.proofs.Places.{marks-elsewhere, contents-mark}
 use Rattle.protocol.proofs.Ends.{left-over, Wide, alone-ends}
-use Rattle.protocol.proofs.Kept.{by-check}
+use Rattle.protocol.proofs.Checked.{by-check, by-station}
 
 module _ {K : Type 0} {N : ℕ} (κ : Lawful K N) (k : K) (cs₀ : List (Cell K)) where
   -- a boundary that can be marked
@@ -117,7 +121,7 @@ module _ {K : Type 0} {N : ℕ} (κ : Lawful K N) (k : K) (cs₀ : List (Cell K)
     quiet-step (GiveBack g) q = absurd q
     quiet-step (Check l r p) q =
         check-quiet l r (cell N l) (cell N r)
-          (is-after (versus (κ .kind) k (contents cs (κ .kind .place k)))) (walk-at (κ .kind .place k) p (versus (κ .kind) k (contents cs p)))
+        (is-after (versus (κ .kind) k (contents cs (κ .kind .place k)))) (walk-at (κ .kind .place k) p (versus (κ .kind) k (contents cs p)))
     quiet-step (Shift d l r g) q = shift-quiet d l r g (contents cs (beside d g))
     quiet-step (ReleaseLeft l r a) q = release-quiet l (cell N l) (ReleaseRight r a) (λ _. tt)
     quiet-step (ReleaseRight r a) q = release-quiet r (cell N r) (Answered a) (λ _. tt)
@@ -130,7 +134,7 @@ module _ {K : Type 0} {N : ℕ} (κ : Lawful K N) (k : K) (cs₀ : List (Cell K)
       let m = decision (κ .kind) cs k x in
       let q′ = quiet-step cs x q in
       by-standing (cells-after (m .act) cs, m .next) (alone (κ .kind) n k (cells-after (m .act) cs) (m .next))
-        (standing (m .next)) q′ (alone-quiet n (cells-after (m .act) cs) (m .next) q′)
+      (standing (m .next)) q′ (alone-quiet n (cells-after (m .act) cs) (m .next) q′)
     where
       by-standing : (a b : List (Cell K) × Stage) (y : Standing) → Quiet (a .0) (a .1) → Quiet (b .0) (b .1)
           → Quiet (ends-by y a b .0) (ends-by y a b .1)
@@ -139,21 +143,61 @@ module _ {K : Type 0} {N : ℕ} (κ : Lawful K N) (k : K) (cs₀ : List (Cell K)
       by-standing a b under-way p q = q
       by-standing a b (done r) p q = p
 
-module _ {K : Type 0} {N : ℕ} (κ : Lawful K N) (w : World K) (size : length (w .cells) ≡ N) (k : K) where
-  pub whole-over : Ended-stage (alone (κ .kind) (enough N) k (w .cells) Home .1)
+module _ {K : Type 0} {N : ℕ} (κ : Lawful K N) (w : World K) (size : length (w .cells) ≡ N) where
+  pub whole-over : (k : K) → Ended-stage (alone (κ .kind) (enough N) k (w .cells) Home .1)
   unfolding Wide left-over
-  whole-over = alone-ends κ k (enough N) (w .cells) Home size refl tt (omega arith)
+  whole-over k = alone-ends κ k (enough N) (w .cells) Home size refl tt (omega arith)
 
-  pub barred-unchanged : whole-entry (κ .kind) w k .1 ≡ Err Barred → whole-entry (κ .kind) w k .0 ≡ w
-  unfolding whole-entry
-  barred-unchanged = by-check (λ o. o .1 ≡ Err Barred → o .0 ≡ w) (bad-size N) WrongSize w _ (λ e. refl) (λ _ e. by-end whole-over e)
+  -- if the call is refused, nothing has changed
+  abbrev Same : {A : Type 0} → Out K A → Type 0
+  Same o = (e : Refusal) → o .1 ≡ Err e → o .0 ≡ w
+
+  accepted : {A : Type 0} {v : World K} {a : A} → Same (v, Ok a)
+  accepted e z = let y : _≡_ {A = ℕ} 0 1 = cc in absurd (omega arith)
+
+  collecting-same : (s : ℕ) (t : Station K) (y : Standing) → Same (collecting-at w s t y)
+  collecting-same s t resting e z = refl
+  collecting-same s t homing e z = refl
+  collecting-same s t under-way e z = refl
+  collecting-same s t (done a) e z = accepted e z
+
+  withdrawing-same : (s : ℕ) (t : Station K) (b : Bool) → Same (withdrawing-at w s t b)
+  withdrawing-same s t true e z = accepted e z
+  withdrawing-same s t false e z = accepted e z
+
+  whole-same : (k : K) → Same (whole-entry-by w (alone (κ .kind) (enough N) k (w .cells) Home))
+  whole-same k e z = by-end (whole-over k)
     where
       o : List (Cell K) × Stage
       o = alone (κ .kind) (enough N) k (w .cells) Home
-      by-end : Ended-stage (o .1) → whole-answer (standing (o .1)) ≡ Err Barred → whole-entry-by w o .0 ≡ w
-      by-end (inl h) e =
+
+      by-end : Ended-stage (o .1) → whole-entry-by w o .0 ≡ w
+      by-end (inl h) =
           let q : o .0 ≡ w .cells = subst (Quiet κ k (w .cells) (o .0)) h (alone-quiet κ k (w .cells) (enough N) (w .cells) Home refl) in
           λ i. record { number = w .number; cells = q i; stations = w .stations }
-      by-end (inr h) e =
-          let y : Ok (h .0) ≡ Err Barred = ap (λ x. whole-answer (standing x)) (sym (h .1)) ∙ e in
-          let z : _≡_ {A = ℕ} 0 1 = cc in absurd (omega arith)
+      by-end (inr h) =
+          let y : Ok (h .0) ≡ Err e = ap (λ x. whole-answer (standing x)) (sym (h .1)) ∙ z in
+          let n : _≡_ {A = ℕ} 0 1 = cc in absurd (omega arith)
+
+  pub refused-unchanged : (t : Turn K) → Same (turned-over (κ .kind) w t)
+  unfolding beginning stepping collecting withdrawing whole-entry
+  refused-unchanged (begin s k) =
+      by-check Same (bad-size N) WrongSize w _ (λ e z. refl) (λ _.
+      by-station Same w s _ (λ e z. refl) (λ b u q.
+      by-check Same (not (is-idle (u .stage))) NotIdle w _ (λ e z. refl) (λ _. accepted)))
+  refused-unchanged (step s) =
+      by-check Same (bad-size N) WrongSize w _ (λ e z. refl) (λ _.
+      by-station Same w s _ (λ e z. refl) (λ b u q.
+      by-check Same (not (busy (u .stage))) NoEntry w _ (λ e z. refl) (λ _.
+      by-check Same (not (names-cells N (u .stage))) NoCell w _ (λ e z. refl) (λ _. accepted))))
+  refused-unchanged (collect n s) =
+      by-check Same (bad-size N) WrongSize w _ (λ e z. refl) (λ _.
+      by-check Same (not (eqb n (w .number))) OtherRegister w _ (λ e z. refl) (λ _.
+      by-station Same w s _ (λ e z. refl) (λ b u q.
+      by-check Same (u .withdrawn) NoEntry w _ (λ e z. refl) (λ _. collecting-same s u (standing (u .stage))))))
+  refused-unchanged (withdraw n s) =
+      by-check Same (bad-size N) WrongSize w _ (λ e z. refl) (λ _.
+      by-check Same (not (eqb n (w .number))) OtherRegister w _ (λ e z. refl) (λ _.
+      by-station Same w s _ (λ e z. refl) (λ b u q.
+      by-check Same (is-idle (u .stage) || u .withdrawn) NoEntry w _ (λ e z. refl) (λ _. withdrawing-same s u (holds-mark N (u .stage))))))
+  refused-unchanged (enter k) = by-check Same (bad-size N) WrongSize w _ (λ e z. refl) (λ _. whole-same k)
