@@ -35,7 +35,7 @@ module _ {K A : Type 0} (w : World K) where
   module _ (s : ℕ) (f : Station K → Out K A) where
     slip-first : (b ours c : Bool) (o : Content (Station K))
         → refused-if b WrongSize w (refused-if (not ours) OtherRegister w (refused-if c NoStation w (for-record w o f)))
-          ≡ after-checks (cond b (Err WrongSize) (cond ours (cond c (Err NoStation) (seated o)) (Err OtherRegister))) f
+        ≡ after-checks (cond b (Err WrongSize) (cond ours (cond c (Err NoStation) (seated o)) (Err OtherRegister))) f
     unfolding refused-if for-record
     slip-first true ours c o = refl
     slip-first false false c o = refl
@@ -45,7 +45,7 @@ module _ {K A : Type 0} (w : World K) where
 
     station-first : (b c : Bool) (o : Content (Station K))
         → refused-if b WrongSize w (refused-if c NoStation w (for-record w o f))
-          ≡ after-checks (cond b (Err WrongSize) (cond c (Err NoStation) (seated o))) f
+        ≡ after-checks (cond b (Err WrongSize) (cond c (Err NoStation) (seated o))) f
     unfolding refused-if for-record
     station-first true c o = refl
     station-first false true o = refl
@@ -140,7 +140,7 @@ module _ {K : Type 0} {N : ℕ} (κ : Kind K N) (w : World K) (s : ℕ) where
       station-checks w s _ N
       ∙ one-more w (λ t. not (busy (t .stage))) NoEntry _ (admitted N true (w .stations) s)
       ∙ one-more w (λ t. not (names-cells N (t .stage))) NoCell (λ t. stepping-by w s t (decision κ (w .cells) (t .key) (t .stage)))
-          (unless (λ t. not (busy (t .stage))) NoEntry (admitted N true (w .stations) s))
+      (unless (λ t. not (busy (t .stage))) NoEntry (admitted N true (w .stations) s))
 
   pub step-refused : (e : Refusal) → Err e ≡ to-step N (w .stations) s → (w, Err e) ≡ stepping κ w s
   step-refused e = by-refusal w (stepping κ w s) (to-step N (w .stations) s) _ step-is e
@@ -157,5 +157,5 @@ module _ {K : Type 0} {N : ℕ} (κ : Kind K N) (w : World K) (s : ℕ) where
       let v : p ≡ says (settled (t .withdrawn) (m .next)) = e5 ∙ ap says z in
       let made : Out K Progress = stepping-by w s t m in
       let put-together : _≡_ {A = Out K Progress} (world (w .number) cs (set (w .stations) s (record { key = t .key; stage = y; withdrawn = b })), Ok p) made =
-          λ i. (record { number = w .number; cells = e1 i; stations = set (w .stations) s (record { key = t .key; stage = z i; withdrawn = u i }) }, Ok (v i)) in
+      λ i. (record { number = w .number; cells = e1 i; stations = set (w .stations) s (record { key = t .key; stage = z i; withdrawn = u i }) }, Ok (v i)) in
       put-together ∙ by-record w (stepping κ w s) (to-step N (w .stations) s) _ step-is t h

@@ -67,10 +67,10 @@ module _ {K : Type 0} {N : ℕ} (κ : Lawful K N) (k : K) where
       let p = alone (κ .kind) m k cs′ (d .next) in
       let q = alone (κ .kind) n k cs′ (d .next) in
       ⊎-elim (λ e. ap (λ y. ends-by (standing y) (cs′, y) p) e ∙ sym (ap (λ y. ends-by (standing y) (cs′, y) q) e))
-        (λ h.
-           ends-alike (d .next) (standing (d .next)) refl (cs′, d .next) p q
-             (λ b′. same-alone m n cs′ (d .next) (length-after (d .act) cs ∙ size) b′ (h .0) (omega arith) (omega arith)))
-        (fallen cs size x b w)
+      (λ h.
+      ends-alike (d .next) (standing (d .next)) refl (cs′, d .next) p q
+      (λ b′. same-alone m n cs′ (d .next) (length-after (d .act) cs ∙ size) b′ (h .0) (omega arith) (omega arith)))
+      (fallen cs size x b w)
 
 -- a stage at which the entry is not over
 goes-on : {A : Type 0} (x : Stage) → is-idle x ≡ false → (x ≡ Home → ⊥) → ((a : Answer) → x ≡ Answered a → ⊥) → (o p : A)
@@ -147,8 +147,8 @@ module _ {K : Type 0} (order : K → K → Ordering) (home : K → ℕ → ℕ) 
           i .same
           ∙ same-alone κ k (steps-left e) (suc (steps-left e)) cs (e .stage) (i .size) (i .runs) (i .wide) (omega arith) (omega arith)
           ∙ sym
-              (ap (λ c. ends-by (standing (e′ .stage)) (c, e′ .stage) (outcome (steps-left e) c (e′ .stage))) cells-is
-               ∙ ap (λ x. ends-by (standing x) (cells-after (step-of .act) cs, x) (outcome (steps-left e) (cells-after (step-of .act) cs) x)) stage-is)
+          (ap (λ c. ends-by (standing (e′ .stage)) (c, e′ .stage) (outcome (steps-left e) c (e′ .stage))) cells-is
+          ∙ ap (λ x. ends-by (standing x) (cells-after (step-of .act) cs, x) (outcome (steps-left e) (cells-after (step-of .act) cs) x)) stage-is)
 
       abbrev pub Whole : Result Answer Refusal → Type 0
       Whole r = (number : ℕ) (ts : List (Station K)) → (world number cs′ ts, r) ≡ whole-entry (kind-over order home size₀) (world number cs₀ ts) k
@@ -156,7 +156,7 @@ module _ {K : Type 0} (order : K → K → Ordering) (home : K → ℕ → ℕ) 
       over : (x : Stage) → e′ .stage ≡ x → (p : ends-by (standing x) (cs′, x) (outcome (steps-left e) cs′ (e′ .stage)) ≡ (cs′, x)) → Whole (whole-answer (standing x))
       over x h p number ts =
           entered (kind-over order home size₀) (world number cs₀ ts) k (sym good) (cs′, x)
-            (sym (went ∙ ap (λ y. ends-by (standing y) (cs′, y) (outcome (steps-left e) cs′ (e′ .stage))) h ∙ p))
+          (sym (went ∙ ap (λ y. ends-by (standing y) (cs′, y) (outcome (steps-left e) cs′ (e′ .stage))) h ∙ p))
 
       pub came-home : e′ .stage ≡ Home → Whole (Err Barred)
       came-home h = over Home h refl
@@ -168,17 +168,22 @@ module _ {K : Type 0} (order : K → K → Ordering) (home : K → ℕ → ℕ) 
       unfolding Falls
       going-on h a = ⊎-elim (λ z. absurd (h (stage-is ∙ z)))
           (λ z.
-             let w : Wide size₀ (e′ .stage) = subst (Wide size₀) (sym stage-is) (z .0) in
-             let lt : steps-left e′ < steps-left e = subst (λ x. left-over size₀ (suc (home k size₀)) x < steps-left e) (sym stage-is) (z .1) in
-             let more = goes-on (e′ .stage) (ap is-idle stage-is ∙ z .2) h a (cs′, e′ .stage) (outcome (steps-left e) cs′ (e′ .stage)) in
-             let sized : length cs′ ≡ size₀ = ap length cells-is ∙ length-after (step-of .act) cs ∙ i .size in
-             (record {
-                own = ap (λ x. x .key) entry-is ∙ i .own; size = sized; runs = more .0; wide = w;
-                named =
+          let w : Wide size₀ (e′ .stage) = subst (Wide size₀) (sym stage-is) (z .0) in
+          let lt : steps-left e′ < steps-left e = subst (λ x. left-over size₀ (suc (home k size₀)) x < steps-left e) (sym stage-is) (z .1) in
+          let more = goes-on (e′ .stage) (ap is-idle stage-is ∙ z .2) h a (cs′, e′ .stage) (outcome (steps-left e) cs′ (e′ .stage)) in
+          let sized : length cs′ ≡ size₀ = ap length cells-is ∙ length-after (step-of .act) cs ∙ i .size in (
+            record {
+              own = ap (λ x. x .key) entry-is ∙ i .own;
+              size = sized;
+              runs = more .0;
+              wide = w;
+              named =
                   ap (names-cells size₀) stage-is
                   ∙ named-kept κ k (contents cs) (marks cs) (contents-inside cs size₀ (i .size)) (e .stage) (i .named);
-                same =
+              same =
                   went ∙ more .1
                   ∙ same-alone κ k (steps-left e) (steps-left e′) cs′ (e′ .stage) sized (more .0) w (omega arith) (omega arith);
-              }, lt))
+            },
+            lt,
+          ))
           (fallen κ k cs (i .size) (e .stage) (i .runs) (i .wide))

@@ -3,3 +3,4 @@ pub mod Told
 pub mod Checked
 pub mod Loops
 pub mod Going
+pub mod Opened

@@ -40,9 +40,12 @@ module _ {K : Type 0} where
   marks-read cs zero c a b e = absurd (not-suc-le-zero a)
   marks-read cs (suc i) c a b e = let z : suc i - 1 ≡ i = omega arith in ap (λ x. x .marked) (e ∙ ap (λ j. getD cs j c) z) ∙ sym (marked-getD cs i c b)
 
-  pub alter-write : (f : Cell K → Cell K) (cs : List (Cell K)) (p : ℕ) (d : Cell K) → 0 < p → p ≤ length cs → set cs (p - 1) (f (getD cs (p - 1) d)) ≡ alter-place f p cs
-  alter-write f cs zero d a b = absurd (not-suc-le-zero a)
-  alter-write f cs (suc i) d a b = let z : suc i - 1 ≡ i = omega arith in ap (λ j. set cs j (f (getD cs j d))) z ∙ sym (alter-getD f cs i d b)
+  pub alter-write : (f : Cell K → Cell K) (cs : List (Cell K)) (p : ℕ) (c d : Cell K) → 0 < p → p ≤ length cs → c ≡ getD cs (p - 1) c → d ≡ f c
+      → set cs (p - 1) d ≡ alter-place f p cs
+  alter-write f cs zero c d a b e g = absurd (not-suc-le-zero a)
+  alter-write f cs (suc i) c d a b e g =
+      let z : suc i - 1 ≡ i = omega arith in
+      ap (λ x. set cs (suc i - 1) x) (g ∙ ap f e) ∙ ap (λ j. set cs j (f (getD cs j c))) z ∙ sym (alter-getD f cs i c b)
 
   pub contents-edge : (cs : List (Cell K)) (p : ℕ) → (p ≡ 0) ⊎ ((p ≡ 0 → ⊥) × (length cs < p)) → empty ≡ contents cs p
   contents-edge cs p h = sym (⊎-elim (λ e. ap (contents cs) e) (λ e. contents-past cs p (e .1)) h)

@@ -5,13 +5,15 @@ use mathlib.Core.List.{List}
 use Prim.Native.Nat.{ℕ}
 use Rattle.std.specs.declared.cmp.Ordering.{Ordering}
 use Rattle.protocol.specs.declared.Cell.{Cell}
+use Rattle.protocol.specs.declared.Act.{Act}
 use Rattle.protocol.specs.declared.Direction.{Direction}
 use Rattle.protocol.specs.declared.Stage.{Stage}
 use Rattle.protocol.specs.declared.Stage.the-variants.{Idle, Home, Look, Left, Right, FirstMark, SecondMark, GiveBack, Check, Shift, ReleaseLeft, ReleaseRight, Answered}
-use Rattle.protocol.specs.Cells.{Content, empty, holds, cell, contents, marks}
+use Rattle.protocol.specs.Cells.{Content, empty, holds, cell, contents, marks, cells-after}
 use Rattle.protocol.specs.Step.{Kind, Versus, is-after, walk-at, copy-due, beside, at-home, at-check, copied, at-shift, versus, decide}
 use Rattle.protocol.specs.Calls.{decision}
 use Rattle.register.specs.declared.stages.Reading.{Reading}
+use Rattle.register.specs.declared.stages.Entry.{Entry}
 use Rattle.register.specs.Readings.{versus-of, order-of, due-of, at-gap, told, walk-from, reading}
 
 module _ {K : Type 0} {N : ℕ} (κ : Kind K N) (cs : List (Cell K)) (k : K) where
@@ -27,7 +29,7 @@ module _ {K : Type 0} {N : ℕ} (κ : Kind K N) (cs : List (Cell K)) (k : K) whe
   shift-read d l r g empty = refl
   shift-read d l r g (holds x) = copied-read d l r g x (copy-due d (κ .order x k))
 
-  pub told-is : (x : Stage) → told k (κ .place k) N x (reading κ cs k x) ≡ decision κ cs k x
+  told-is : (x : Stage) → told k (κ .place k) N x (reading κ cs k x) ≡ decision κ cs k x
   told-is Idle = refl
   told-is Home = ap (at-home k (κ .place k) (marks cs (κ .place k))) (versus-read (contents cs (κ .place k)))
   told-is (Look p) = refl
@@ -44,5 +46,13 @@ module _ {K : Type 0} {N : ℕ} (κ : Kind K N) (cs : List (Cell K)) (k : K) whe
   told-is (Answered a) = refl
 
   -- by a home and a reading that are what they should be
-  pub told-from : (h : ℕ) (s : Reading K) (x : Stage) → h ≡ κ .place k → s ≡ reading κ cs k x → told k h N x s ≡ decision κ cs k x
+  told-from : (h : ℕ) (s : Reading K) (x : Stage) → h ≡ κ .place k → s ≡ reading κ cs k x → told k h N x s ≡ decision κ cs k x
   told-from h s x e f = ap (λ p. told k p N x s) e ∙ ap (told k (κ .place k) N x) f ∙ told-is x
+
+  module _ (h : ℕ) (s : Reading K) (e : Entry K) (home-is : h ≡ κ .place k) (read-is : s ≡ reading κ cs k (e .stage)) where
+    -- the entry after a step, and the cells
+    pub entry-after : (e′ : Entry K) → e′ ≡ record { key = k; stage = told k h N (e .stage) s .next } → e′ ≡ record { key = k; stage = decision κ cs k (e .stage) .next }
+    entry-after e′ z = z ∙ ap (λ m. record { key = k; stage = m .next }) (told-from h s (e .stage) home-is read-is)
+
+    pub cells-then : (a : Act K) (cs′ : List (Cell K)) → a ≡ told k h N (e .stage) s .act → cs′ ≡ cells-after a cs → cs′ ≡ cells-after (decision κ cs k (e .stage) .act) cs
+    cells-then a cs′ y z = z ∙ ap (λ b. cells-after b cs) (y ∙ ap (λ m. m .act) (told-from h s (e .stage) home-is read-is))

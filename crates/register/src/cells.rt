@@ -102,26 +102,43 @@ pub fn shift<K: Key>(cells: &[Cell<K>], key: K, towards: Direction, gap: usize) 
     }
 }
 
-/// Marks a place, or takes its mark away.
-pub fn set_mark<K: Key>(cells: &mut [Cell<K>], place: usize, marked: bool)
-    ensures { λ _. ⌜ now (cells .exit) ≡ alter-place (with-mark marked) place (now (cells .entry)) ⌝ }
+/// A cell with this mark, or without one.
+fn remarked<K: Key>(c: Cell<K>, marked: bool) -> Cell<K>
+    ensures { λ r. ⌜ r ≡ with-mark marked c ⌝ }
 {
-    if place > 0 && place <= cells.len() {
-        cells[place - 1].marked = marked;
+    Cell {
+        key: c.key,
+        occupied: c.occupied,
+        marked,
     }
 }
 
-/// Writes a key at a place. The cell keeps its mark.
-pub fn put_key<K: Key>(cells: &mut [Cell<K>], place: usize, key: K)
+/// A cell with this key. It keeps its mark.
+fn rewritten<K: Key>(c: Cell<K>, key: K) -> Cell<K>
+    ensures { λ r. ⌜ r ≡ with-key key c ⌝ }
+{
+    Cell {
+        key,
+        occupied: true,
+        marked: c.marked,
+    }
+}
+
+/// Marks a place, or takes its mark away.
+fn set_mark<K: Key>(cells: &mut [Cell<K>], place: usize, marked: bool)
+    ensures { λ _. ⌜ now (cells .exit) ≡ alter-place (with-mark marked) place (now (cells .entry)) ⌝ }
+{
+    if place > 0 && place <= cells.len() {
+        cells[place - 1] = remarked(cells[place - 1], marked);
+    }
+}
+
+/// Writes a key at a place.
+fn put_key<K: Key>(cells: &mut [Cell<K>], place: usize, key: K)
     ensures { λ _. ⌜ now (cells .exit) ≡ alter-place (with-key key) place (now (cells .entry)) ⌝ }
 {
     if place > 0 && place <= cells.len() {
-        let marked = cells[place - 1].marked;
-        cells[place - 1] = Cell {
-            key,
-            occupied: true,
-            marked,
-        };
+        cells[place - 1] = rewritten(cells[place - 1], key);
     }
 }
 

@@ -12,6 +12,7 @@ ghost use Rattle.protocol.specs.Calls.{opening, question};
 ghost use Rattle.protocol.specs.Turns.{begin as Begin, step as Step, collect as Collect, withdraw as Withdraw, enter as Enter, turned};
 ghost use Rattle.protocol.specs.Safety.{Safe-from};
 ghost use Rattle.register.specs.Memory.{world, hands-out, hands-back};
+
 mod calls;
 mod cells;
 mod checks;
@@ -20,9 +21,6 @@ mod slips;
 mod stages;
 mod steps;
 
-pub use slips::Refused;
-pub use slips::Slip;
-
 use keys::Key;
 use protocol::Answer;
 use protocol::Cell;
@@ -30,6 +28,8 @@ use protocol::Departure;
 use protocol::Progress;
 use protocol::Refusal;
 use protocol::Station;
+pub use slips::Refused;
+pub use slips::Slip;
 
 /// A register over the caller's cells.
 #[derive(Drop)]
@@ -69,22 +69,14 @@ impl<'a, K: Key> Register<'a, K> {
     }
 
     /// One step of a station.
-    pub fn step(
-        &mut self,
-        stations: &mut [Station<K>],
-        station: usize,
-    ) -> Result<Progress, Refusal>
+    pub fn step(&mut self, stations: &mut [Station<K>], station: usize) -> Result<Progress, Refusal>
         ensures { λ r. ⌜ (world (now (self .exit) .number) (now (now (self .exit) .cells)) (now (stations .exit)), r) ≡ turned order home (world (now (self .entry) .number) (now (now (self .entry) .cells)) (now (stations .entry))) (Step station) ⌝ }
     {
         calls::step(self.cells, stations, station)
     }
 
     /// Collects an answered entry: spends its slip and gives its answer. A refused slip comes back.
-    pub fn collect(
-        &mut self,
-        stations: &mut [Station<K>],
-        slip: Slip,
-    ) -> Result<Answer, Refused>
+    pub fn collect(&mut self, stations: &mut [Station<K>], slip: Slip) -> Result<Answer, Refused>
         ensures { λ r. ⌜ (world (now (self .exit) .number) (now (now (self .exit) .cells)) (now (stations .exit)), r) ≡ hands-back slip (turned order home (world (now (self .entry) .number) (now (now (self .entry) .cells)) (now (stations .entry))) (Collect (slip .register) (slip .station))) ⌝ }
     {
         calls::collect(self.cells.len(), self.number, stations, slip)
@@ -116,3 +108,6 @@ impl<'a, K: Key> Register<'a, K> {
         calls::key_at(self.cells, i)
     }
 }
+
+#[cfg(test)]
+mod tests;

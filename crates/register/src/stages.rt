@@ -40,7 +40,6 @@ pub struct Move<K> {
     pub act: Act<K>,
 }
 
-
 /// An entry at its step: its key, and its stage, copied out of a record.
 #[derive(Clone, Copy)]
 pub struct Entry<K> {
@@ -418,11 +417,7 @@ pub fn holds_mark(n: usize, stage: Stage) -> bool
     match stage {
         Stage::SecondMark { left, right: _ } => is_cell(n, left),
         Stage::GiveBack { cell } => cell < n,
-        Stage::Check {
-            left,
-            right,
-            at: _,
-        } => is_cell(n, left) || is_cell(n, right),
+        Stage::Check { left, right, at: _ } => is_cell(n, left) || is_cell(n, right),
         Stage::Shift {
             towards: _,
             left,

@@ -13,8 +13,8 @@ returns-then-c g c =
     let x = c .index-cells-place .result in
     record {
       value =
-        sym (cond-true (x .occupied) (holds (x .key)) empty (c .if-c .taken))
-        ∙ contents-read (c .args .cells .now) (c .args .place) x (omega arith) (omega arith) (c .index-cells-place .is);
+          sym (cond-true (x .occupied) (holds (x .key)) empty (c .if-c .taken))
+          ∙ contents-read (c .args .cells .now) (c .args .place) x (omega arith) (omega arith) (c .index-cells-place .is);
       inside = omega arith;
     }
 
@@ -23,7 +23,7 @@ returns-else-c g c =
     let x = c .index-cells-place .result in
     record {
       value =
-        sym (cond-false (x .occupied) (holds (x .key)) empty (c .if-c .left))
-        ∙ contents-read (c .args .cells .now) (c .args .place) x (omega arith) (omega arith) (c .index-cells-place .is);
+          sym (cond-false (x .occupied) (holds (x .key)) empty (c .if-c .left))
+          ∙ contents-read (c .args .cells .now) (c .args .place) x (omega arith) (omega arith) (c .index-cells-place .is);
       inside = tt;
     }
