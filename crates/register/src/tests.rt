@@ -33,13 +33,15 @@ fn slip(numbers: (u32, usize)) -> Slip {
 fn outcome<T: Drop>(r: Result<T, Refused>) -> Result<T, Refusal> {
     match r {
         Ok(x) => Ok(x),
-        Err(Refused {
-            slip: Slip {
-                register: _,
-                station: _,
+        Err(
+            Refused {
+                slip: Slip {
+                    register: _,
+                    station: _,
+                },
+                refusal,
             },
-            refusal,
-        }) => Err(refusal),
+        ) => Err(refusal),
     }
 }
 
@@ -81,8 +83,11 @@ fn check_row(r: &mut Register<Tray>, row: &[u16]) -> Result<(), Fail> {
 }
 
 const INSERTED: u8 = 100;
+
 const FOUND: u8 = 101;
+
 const FULL: u8 = 102;
+
 const NONE: u16 = 1000;
 
 // Whole entries, each with its answer.
@@ -132,8 +137,11 @@ const TEN: [(u16, u8); 8] = [
     (841, INSERTED),
     (931, INSERTED),
 ];
+
 const TEN_ROW: [u16; 10] = [145, 293, 297, NONE, 458, 526, 553, NONE, 841, 931];
+
 const TWO: [(u16, u8); 4] = [(100, INSERTED), (200, INSERTED), (300, FULL), (200, FOUND)];
+
 const THREE: [(u16, u8); 3] = [(500, INSERTED), (400, INSERTED), (450, INSERTED)];
 
 // Enters keys into a register over these cells, by whole entries and then, opened again, by steps.
@@ -181,14 +189,20 @@ fn twelve(cells: &mut [Cell<Tray>], stations: &mut [Station<Tray>]) -> Result<()
     check_eq(outcome(r.withdraw(stations, slip(other)))?, Departure::Gone)?;
     goes_on(&mut r, stations, 0, 5)?;
     check_eq(r.step(stations, 0)?, Progress::Answered)?;
-    check_eq(number_of(outcome(r.collect(stations, slip(mine)))), INSERTED)?;
+    check_eq(
+        number_of(outcome(r.collect(stations, slip(mine)))),
+        INSERTED,
+    )?;
     check_row(&mut r, &[NONE, 400, 500])
 }
 
 #[test]
 fn twelve_steps() -> Result<(), Fail> {
     let old = Tray::new(7)?;
-    twelve(&mut [cell(old); 3], &mut [record(old, Stage::Home, true); 2])
+    twelve(
+        &mut [cell(old); 3],
+        &mut [record(old, Stage::Home, true); 2],
+    )
 }
 
 // Steps a withdrawn station until it is idle.
@@ -265,11 +279,33 @@ fn wrong_count(stations: &mut [Station<Tray>]) -> Result<(), Fail> {
     check_row(&mut r, &[7, NONE, NONE])
 }
 
+// As many cells as a register may have.
+fn most(cells: &mut [Cell<Tray>]) -> Result<(), Fail> {
+    let old = Tray::new(7)?;
+    let stations: &mut [Station<Tray>] = &mut [record(old, Stage::Home, true); 1];
+    let mut r = open(cells, stations, 5, old);
+    enter_all(&mut r, &[(999, INSERTED), (0, INSERTED), (999, FOUND)])?;
+    step_all(&mut r, stations, 0, &[(500, INSERTED), (0, FOUND)])?;
+    check(r.key_at(65_470).is_some() && r.key_at(0).is_some())?;
+    check(r.key_at(65_536).is_none() && r.key_at(usize::MAX).is_none())
+}
+
+#[test]
+fn most_cells() -> Result<(), Fail> {
+    let old = Tray::new(7)?;
+    most(&mut [cell(old); 65_536])?;
+    wrong_sized(&mut [cell(old); 65_537])
+}
+
 #[test]
 fn limits() -> Result<(), Fail> {
     let old = Tray::new(7)?;
     wrong_sized(&mut [])?;
-    both_ways(&mut [cell(old); 1], &[(999, INSERTED), (0, FULL), (999, FOUND)], &[999])?;
+    both_ways(
+        &mut [cell(old); 1],
+        &[(999, INSERTED), (0, FULL), (999, FOUND)],
+        &[999],
+    )?;
     wrong_count(&mut [])?;
     wrong_count(&mut [record(old, Stage::Home, true); 65])
 }
@@ -289,7 +325,10 @@ fn strange_slip(
         Err(Refused { slip, refusal: _ }) => numbers(Ok(slip))?,
     };
     check(back.0 == mine.0 && back.1 == mine.1)?;
-    check_eq(number_of(outcome(r.collect(stations, slip(mine)))), INSERTED)
+    check_eq(
+        number_of(outcome(r.collect(stations, slip(mine)))),
+        INSERTED,
+    )
 }
 
 #[test]
@@ -365,7 +404,19 @@ fn refusals() -> Result<(), Fail> {
     refused_at(Stage::Idle, false, [None, none, none, none])?;
     refused_at(Stage::Home, false, [busy, None, early, None])?;
     refused_at(Stage::Home, true, [busy, None, none, none])?;
-    refused_at(Stage::GiveBack { cell: 3 }, false, [busy, Some(Refusal::NoCell), early, None])?;
-    refused_at(Stage::Answered { answer: full }, false, [busy, none, None, None])?;
-    refused_at(Stage::Answered { answer: full }, true, [busy, none, none, none])
+    refused_at(
+        Stage::GiveBack { cell: 3 },
+        false,
+        [busy, Some(Refusal::NoCell), early, None],
+    )?;
+    refused_at(
+        Stage::Answered { answer: full },
+        false,
+        [busy, none, None, None],
+    )?;
+    refused_at(
+        Stage::Answered { answer: full },
+        true,
+        [busy, none, none, none],
+    )
 }
