@@ -1,16 +1,22 @@
 -- The memory behind a register and its station records, and the slips that calls hand out and hand back.
 use mathlib.Core.List.{List}
 use Prim.Native.Nat.{ℕ}
+use denote.Ref.{now}
 use Rattle.protocol.specs.declared.Cell.{Cell}
 use Rattle.protocol.specs.declared.Station.{Station}
 use Rattle.protocol.specs.declared.Refusal.{Refusal}
 use Rattle.protocol.specs.Calls.{World, Out, Result, Ok, Err, Slip-numbers}
+use Rattle.register.specs.declared.Register.{Register}
 use Rattle.register.specs.declared.slips.Slip.{Slip}
 use Rattle.register.specs.declared.slips.Refused.{Refused}
 
 module _ {K : Type 0} where
   abbrev pub world : ℕ → List (Cell K) → List (Station K) → World K
   world number cells stations = record { number = number; cells = cells; stations = stations }
+
+  -- behind a register and these station records
+  abbrev pub behind : Register K → List (Station K) → World K
+  behind r stations = world (r .number) (now (r .cells)) stations
 
 -- a slip has the two numbers that a beginning gives
 abbrev pub slip-of : Result Slip-numbers Refusal → Result Slip Refusal

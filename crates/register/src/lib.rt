@@ -11,7 +11,7 @@ ghost use Rattle.protocol.specs.declared.Station.{Station as StationOf};
 ghost use Rattle.protocol.specs.Calls.{opening, question};
 ghost use Rattle.protocol.specs.Turns.{begin as Begin, step as Step, collect as Collect, withdraw as Withdraw, enter as Enter, turned};
 ghost use Rattle.protocol.specs.Safety.{Safe-from};
-ghost use Rattle.register.specs.Memory.{world, hands-out, hands-back};
+ghost use Rattle.register.specs.Memory.{behind, hands-out, hands-back};
 
 mod calls;
 mod cells;
@@ -48,8 +48,8 @@ pub fn open<'a, K: Key>(
     number: u32,
     filler: K,
 ) -> Register<'a, K>
-    ensures opened { λ r. ⌜ world (r .number) (now (r .cells)) (now (stations .exit)) ≡ opening number (now (cells .entry)) (now (stations .entry)) filler ⌝ }
-    ensures safe { λ r. ⌜ Safe-from order home (world (r .number) (now (r .cells)) (now (stations .exit))) ⌝ }
+    ensures opened { λ r. ⌜ behind r (now (stations .exit)) ≡ opening number (now (cells .entry)) (now (stations .entry)) filler ⌝ }
+    ensures safe { λ r. ⌜ Safe-from order home (behind r (now (stations .exit))) ⌝ }
 {
     opening::prepare(cells, stations, filler);
     Register { cells, number }
@@ -63,21 +63,21 @@ impl<'a, K: Key> Register<'a, K> {
         station: usize,
         key: K,
     ) -> Result<Slip, Refusal>
-        ensures { λ r. ⌜ (world (now (self .exit) .number) (now (now (self .exit) .cells)) (now (stations .exit)), r) ≡ hands-out (turned order home (world (now (self .entry) .number) (now (now (self .entry) .cells)) (now (stations .entry))) (Begin station key)) ⌝ }
+        ensures { λ r. ⌜ (behind (now (self .exit)) (now (stations .exit)), r) ≡ hands-out (turned order home (behind (now (self .entry)) (now (stations .entry))) (Begin station key)) ⌝ }
     {
         calls::begin(self.cells.len(), self.number, stations, station, key)
     }
 
     /// One step of a station.
     pub fn step(&mut self, stations: &mut [Station<K>], station: usize) -> Result<Progress, Refusal>
-        ensures { λ r. ⌜ (world (now (self .exit) .number) (now (now (self .exit) .cells)) (now (stations .exit)), r) ≡ turned order home (world (now (self .entry) .number) (now (now (self .entry) .cells)) (now (stations .entry))) (Step station) ⌝ }
+        ensures { λ r. ⌜ (behind (now (self .exit)) (now (stations .exit)), r) ≡ turned order home (behind (now (self .entry)) (now (stations .entry))) (Step station) ⌝ }
     {
         calls::step(self.cells, stations, station)
     }
 
     /// Collects an answered entry: spends its slip and gives its answer. A refused slip comes back.
     pub fn collect(&mut self, stations: &mut [Station<K>], slip: Slip) -> Result<Answer, Refused>
-        ensures { λ r. ⌜ (world (now (self .exit) .number) (now (now (self .exit) .cells)) (now (stations .exit)), r) ≡ hands-back slip (turned order home (world (now (self .entry) .number) (now (now (self .entry) .cells)) (now (stations .entry))) (Collect (slip .register) (slip .station))) ⌝ }
+        ensures { λ r. ⌜ (behind (now (self .exit)) (now (stations .exit)), r) ≡ hands-back slip (turned order home (behind (now (self .entry)) (now (stations .entry))) (Collect (slip .register) (slip .station))) ⌝ }
     {
         calls::collect(self.cells.len(), self.number, stations, slip)
     }
@@ -88,22 +88,22 @@ impl<'a, K: Key> Register<'a, K> {
         stations: &mut [Station<K>],
         slip: Slip,
     ) -> Result<Departure, Refused>
-        ensures { λ r. ⌜ (world (now (self .exit) .number) (now (now (self .exit) .cells)) (now (stations .exit)), r) ≡ hands-back slip (turned order home (world (now (self .entry) .number) (now (now (self .entry) .cells)) (now (stations .entry))) (Withdraw (slip .register) (slip .station))) ⌝ }
+        ensures { λ r. ⌜ (behind (now (self .exit)) (now (stations .exit)), r) ≡ hands-back slip (turned order home (behind (now (self .entry)) (now (stations .entry))) (Withdraw (slip .register) (slip .station))) ⌝ }
     {
         calls::withdraw(self.cells.len(), self.number, stations, slip)
     }
 
     /// A whole entry: a fresh station's steps in one call. It is refused where a mark bars it.
     pub fn enter(&mut self, key: K) -> Result<Answer, Refusal>
-        ensures { λ r. ⌜ ((ts : List (StationOf K)) → (world (now (self .exit) .number) (now (now (self .exit) .cells)) ts, r) ≡ turned order home (world (now (self .entry) .number) (now (now (self .entry) .cells)) ts) (Enter key)) ⌝ }
+        ensures { λ r. ⌜ ((ts : List (StationOf K)) → (behind (now (self .exit)) ts, r) ≡ turned order home (behind (now (self .entry)) ts) (Enter key)) ⌝ }
     {
         calls::enter(self.cells, key)
     }
 
     /// The key of a cell, none where it is empty, from the number of cells on, and over 0 cells or more than 65,536. Nothing changes.
     pub fn key_at(&mut self, i: usize) -> Option<K>
-        ensures value { λ r. ⌜ ((ts : List (StationOf K)) → r ≡ question (world (now (self .entry) .number) (now (now (self .entry) .cells)) ts) i) ⌝ }
-        ensures same { λ _. ⌜ ((ts : List (StationOf K)) → world (now (self .exit) .number) (now (now (self .exit) .cells)) ts ≡ world (now (self .entry) .number) (now (now (self .entry) .cells)) ts) ⌝ }
+        ensures value { λ r. ⌜ ((ts : List (StationOf K)) → r ≡ question (behind (now (self .entry)) ts) i) ⌝ }
+        ensures same { λ _. ⌜ ((ts : List (StationOf K)) → behind (now (self .exit)) ts ≡ behind (now (self .entry)) ts) ⌝ }
     {
         calls::key_at(self.cells, i)
     }

@@ -2,8 +2,17 @@
 //!
 //! A test takes a slip down as its two numbers, so that it can end with any outcome. No program outside this crate can.
 use super::*;
+use keys::AboveLimitDebug;
 use keys::Tray;
 use keys::TrayKey;
+use protocol::AnswerDebug;
+use protocol::AnswerPartialEq;
+use protocol::DepartureDebug;
+use protocol::DeparturePartialEq;
+use protocol::ProgressDebug;
+use protocol::ProgressPartialEq;
+use protocol::RefusalDebug;
+use protocol::RefusalPartialEq;
 use protocol::Stage;
 use std::test::*;
 
@@ -24,13 +33,15 @@ fn slip(numbers: (u32, usize)) -> Slip {
 fn outcome<T: Drop>(r: Result<T, Refused>) -> Result<T, Refusal> {
     match r {
         Ok(x) => Ok(x),
-        Err(Refused {
-            slip: Slip {
-                register: _,
-                station: _,
+        Err(
+            Refused {
+                slip: Slip {
+                    register: _,
+                    station: _,
+                },
+                refusal,
             },
-            refusal,
-        }) => Err(refusal),
+        ) => Err(refusal),
     }
 }
 
@@ -72,35 +83,19 @@ fn check_row(r: &mut Register<Tray>, row: &[u16]) -> Result<(), Fail> {
 }
 
 const INSERTED: u8 = 100;
+
 const FOUND: u8 = 101;
+
 const FULL: u8 = 102;
+
 const NONE: u16 = 1000;
 
-#[test]
-fn whole_entries() -> Result<(), Fail> {
-    let old = Tray::new(7)?;
-    let mut cells = [cell(old); 10];
-    let mut stations = [record(old, Stage::Home, true); 2];
-    let mut r = open(&mut cells, &mut stations, 5, old);
-    for k in [145u16, 293, 297, 458, 553, 526, 841, 931] {
-        check_eq(number_of(r.enter(Tray::new(k)?)), INSERTED)?;
+// Whole entries, each with its answer.
+fn enter_all(r: &mut Register<Tray>, keys: &[(u16, u8)]) -> Result<(), Fail> {
+    for (key, answer) in keys {
+        check_eq(number_of(r.enter(Tray::new(*key)?)), *answer)?;
     }
-    check_row(&mut r, &[145, 293, 297, NONE, 458, 526, 553, NONE, 841, 931])?;
-    let mut cells = [cell(old); 2];
-    let mut r = open(&mut cells, &mut stations, 5, old);
-    check_eq(number_of(r.enter(Tray::new(100)?)), INSERTED)?;
-    check_eq(number_of(r.enter(Tray::new(200)?)), INSERTED)?;
-    check_eq(number_of(r.enter(Tray::new(300)?)), FULL)?;
-    check_eq(number_of(r.enter(Tray::new(200)?)), FOUND)?;
-    check_row(&mut r, &[100, 200])?;
-    let mut cells = [cell(old); 3];
-    let mut r = open(&mut cells, &mut stations, 5, old);
-    check_eq(number_of(r.enter(Tray::new(500)?)), INSERTED)?;
-    check_row(&mut r, &[NONE, 500, NONE])?;
-    check_eq(number_of(r.enter(Tray::new(400)?)), INSERTED)?;
-    check_row(&mut r, &[NONE, 400, 500])?;
-    check_eq(number_of(r.enter(Tray::new(450)?)), INSERTED)?;
-    check_row(&mut r, &[400, 450, 500])
+    Ok(())
 }
 
 // Steps a station until it is answered, and collects.
@@ -119,260 +114,309 @@ fn by_steps(
     Err(Fail::new("no answer"))
 }
 
-#[test]
-fn entries_by_steps() -> Result<(), Fail> {
-    let old = Tray::new(7)?;
-    let mut cells = [cell(old); 10];
-    let mut stations = [record(old, Stage::Home, true); 2];
-    let mut r = open(&mut cells, &mut stations, 5, old);
-    for k in [145u16, 293, 297, 458, 553, 526, 841, 931] {
-        check_eq(by_steps(&mut r, &mut stations, 1, k)?, INSERTED)?;
+// The same by steps of one station.
+fn step_all(
+    r: &mut Register<Tray>,
+    stations: &mut [Station<Tray>],
+    s: usize,
+    keys: &[(u16, u8)],
+) -> Result<(), Fail> {
+    for (key, answer) in keys {
+        check_eq(by_steps(r, stations, s, *key)?, *answer)?;
     }
-    check_row(&mut r, &[145, 293, 297, NONE, 458, 526, 553, NONE, 841, 931])?;
-    let mut cells = [cell(old); 2];
-    let mut r = open(&mut cells, &mut stations, 5, old);
-    check_eq(by_steps(&mut r, &mut stations, 0, 100)?, INSERTED)?;
-    check_eq(by_steps(&mut r, &mut stations, 1, 200)?, INSERTED)?;
-    check_eq(by_steps(&mut r, &mut stations, 0, 300)?, FULL)?;
-    check_eq(by_steps(&mut r, &mut stations, 1, 200)?, FOUND)?;
-    check_row(&mut r, &[100, 200])?;
-    let mut cells = [cell(old); 3];
-    let mut r = open(&mut cells, &mut stations, 5, old);
-    check_eq(by_steps(&mut r, &mut stations, 0, 500)?, INSERTED)?;
-    check_eq(by_steps(&mut r, &mut stations, 0, 400)?, INSERTED)?;
-    check_eq(by_steps(&mut r, &mut stations, 0, 450)?, INSERTED)?;
-    check_row(&mut r, &[400, 450, 500])
+    Ok(())
+}
+
+const TEN: [(u16, u8); 8] = [
+    (145, INSERTED),
+    (293, INSERTED),
+    (297, INSERTED),
+    (458, INSERTED),
+    (553, INSERTED),
+    (526, INSERTED),
+    (841, INSERTED),
+    (931, INSERTED),
+];
+
+const TEN_ROW: [u16; 10] = [145, 293, 297, NONE, 458, 526, 553, NONE, 841, 931];
+
+const TWO: [(u16, u8); 4] = [(100, INSERTED), (200, INSERTED), (300, FULL), (200, FOUND)];
+
+const THREE: [(u16, u8); 3] = [(500, INSERTED), (400, INSERTED), (450, INSERTED)];
+
+// Enters keys into a register over these cells, by whole entries and then, opened again, by steps.
+fn both_ways(cells: &mut [Cell<Tray>], keys: &[(u16, u8)], row: &[u16]) -> Result<(), Fail> {
+    let old = Tray::new(7)?;
+    let stations: &mut [Station<Tray>] = &mut [record(old, Stage::Home, true); 2];
+    let mut r = open(cells, stations, 5, old);
+    enter_all(&mut r, keys)?;
+    check_row(&mut r, row)?;
+    let mut r = open(cells, stations, 5, old);
+    step_all(&mut r, stations, 1, keys)?;
+    check_row(&mut r, row)
+}
+
+#[test]
+fn worked_examples() -> Result<(), Fail> {
+    let old = Tray::new(7)?;
+    both_ways(&mut [cell(old); 10], &TEN, &TEN_ROW)?;
+    both_ways(&mut [cell(old); 2], &TWO, &[100, 200])?;
+    both_ways(&mut [cell(old); 3], &THREE, &[400, 450, 500])
+}
+
+// So many steps of a station, each of which goes on.
+fn goes_on(
+    r: &mut Register<Tray>,
+    stations: &mut [Station<Tray>],
+    s: usize,
+    steps: usize,
+) -> Result<(), Fail> {
+    for _ in 0..steps {
+        check_eq(r.step(stations, s)?, Progress::GoesOn)?;
+    }
+    Ok(())
+}
+
+// Three cells, 500 held: the entry of 400.
+fn twelve(cells: &mut [Cell<Tray>], stations: &mut [Station<Tray>]) -> Result<(), Fail> {
+    let mut r = open(cells, stations, 5, Tray::new(7)?);
+    enter_all(&mut r, &[(500, INSERTED)])?;
+    let mine = numbers(r.begin(stations, 0, Tray::new(400)?))?;
+    goes_on(&mut r, stations, 0, 6)?;
+    let other = numbers(r.begin(stations, 1, Tray::new(100)?))?;
+    goes_on(&mut r, stations, 1, 1)?;
+    enter_all(&mut r, &[(100, 8)])?;
+    check_eq(outcome(r.withdraw(stations, slip(other)))?, Departure::Gone)?;
+    goes_on(&mut r, stations, 0, 5)?;
+    check_eq(r.step(stations, 0)?, Progress::Answered)?;
+    check_eq(
+        number_of(outcome(r.collect(stations, slip(mine)))),
+        INSERTED,
+    )?;
+    check_row(&mut r, &[NONE, 400, 500])
 }
 
 #[test]
 fn twelve_steps() -> Result<(), Fail> {
     let old = Tray::new(7)?;
-    let mut cells = [cell(old); 3];
-    let mut stations = [record(old, Stage::Home, true); 2];
-    let mut r = open(&mut cells, &mut stations, 5, old);
-    check_eq(number_of(r.enter(Tray::new(500)?)), INSERTED)?;
-    let mine = numbers(r.begin(&mut stations, 0, Tray::new(400)?))?;
-    for _ in 0..6 {
-        check_eq(r.step(&mut stations, 0)?, Progress::GoesOn)?;
+    twelve(
+        &mut [cell(old); 3],
+        &mut [record(old, Stage::Home, true); 2],
+    )
+}
+
+// Steps a withdrawn station until it is idle.
+fn until_idle(r: &mut Register<Tray>, stations: &mut [Station<Tray>]) -> Result<(), Fail> {
+    for _ in 0..12 {
+        if r.step(stations, 0)? == Progress::Idle {
+            return Ok(());
+        }
     }
-    let other = numbers(r.begin(&mut stations, 1, Tray::new(100)?))?;
-    check_eq(r.step(&mut stations, 1)?, Progress::GoesOn)?;
-    check_eq(number_of(r.enter(Tray::new(100)?)), 8)?;
-    check_eq(outcome(r.withdraw(&mut stations, slip(other)))?, Departure::Gone)?;
-    for _ in 0..5 {
-        check_eq(r.step(&mut stations, 0)?, Progress::GoesOn)?;
-    }
-    check_eq(r.step(&mut stations, 0)?, Progress::Answered)?;
-    check_eq(number_of(outcome(r.collect(&mut stations, slip(mine)))), INSERTED)?;
-    check_row(&mut r, &[NONE, 400, 500])
+    Err(Fail::new("not idle"))
 }
 
 // After so many steps of the entry of 400, it is withdrawn; then the register works on.
-fn withdrawn_after(steps: usize) -> Result<Departure, Fail> {
-    let old = Tray::new(7)?;
-    let mut cells = [cell(old); 3];
-    let mut stations = [record(old, Stage::Home, true); 1];
-    let mut r = open(&mut cells, &mut stations, 5, old);
-    check_eq(number_of(r.enter(Tray::new(500)?)), INSERTED)?;
-    let mine = numbers(r.begin(&mut stations, 0, Tray::new(400)?))?;
+fn withdrawn_after(
+    cells: &mut [Cell<Tray>],
+    stations: &mut [Station<Tray>],
+    steps: usize,
+) -> Result<Departure, Fail> {
+    let mut r = open(cells, stations, 5, Tray::new(7)?);
+    enter_all(&mut r, &[(500, INSERTED)])?;
+    let mine = numbers(r.begin(stations, 0, Tray::new(400)?))?;
     for _ in 0..steps {
-        let _ = r.step(&mut stations, 0)?;
+        let _ = r.step(stations, 0)?;
     }
-    let said = outcome(r.withdraw(&mut stations, slip(mine)))?;
+    let said = outcome(r.withdraw(stations, slip(mine)))?;
     if said == Departure::GoesOn {
-        check_eq(numbers(r.begin(&mut stations, 0, old)).is_err(), true)?;
-        check_eq(number_of(outcome(r.collect(&mut stations, slip(mine)))), 5)?;
-        for _ in 0..12 {
-            if r.step(&mut stations, 0)? == Progress::Idle {
-                break;
-            }
-        }
+        check_eq(number_of(outcome(r.collect(stations, slip(mine)))), 5)?;
+        until_idle(&mut r, stations)?;
     }
-    check_eq(by_steps(&mut r, &mut stations, 0, 100)?, INSERTED)?;
+    check_eq(by_steps(&mut r, stations, 0, 100)?, INSERTED)?;
     Ok(said)
 }
 
 #[test]
 fn withdrawing_at_every_stage() -> Result<(), Fail> {
-    for steps in 0..5 {
-        check_eq(withdrawn_after(steps)?, Departure::Gone)?;
-    }
-    for steps in 5..12 {
-        check_eq(withdrawn_after(steps)?, Departure::GoesOn)?;
-    }
-    check_eq(withdrawn_after(12)?, Departure::Gone)
-}
-
-// A row of numbers that tells stages apart.
-fn told(stage: Stage) -> [usize; 4] {
-    match stage {
-        Stage::Idle => [0, 0, 0, 0],
-        Stage::Home => [1, 0, 0, 0],
-        Stage::GiveBack { cell } => [2, cell, 0, 0],
-        Stage::Answered { answer } => [3, answer as usize, 0, 0],
-        Stage::Check { left, right, at } => [4, left, right, at],
-        _ => [5, 0, 0, 0],
-    }
-}
-
-fn same(a: &[Station<Tray>], b: &[Station<Tray>]) -> bool {
-    if a.len() != b.len() {
-        return false;
-    }
-    for i in 0..a.len() {
-        let x = a[i];
-        let y = b[i];
-        if x.key.number() != y.key.number() || x.withdrawn != y.withdrawn {
-            return false;
-        }
-        if told(x.stage) != told(y.stage) {
-            return false;
-        }
-    }
-    true
-}
-
-fn same_cells(a: &[Cell<Tray>], b: &[Cell<Tray>]) -> bool {
-    if a.len() != b.len() {
-        return false;
-    }
-    for i in 0..a.len() {
-        let x = a[i];
-        let y = b[i];
-        if x.key.number() != y.key.number() || x.occupied != y.occupied || x.marked != y.marked {
-            return false;
-        }
-    }
-    true
-}
-
-#[test]
-fn refusals_change_nothing() -> Result<(), Fail> {
     let old = Tray::new(7)?;
-    let key = Tray::new(8)?;
-    let mut cells = [cell(old); 3];
-    let full = Answer::Full;
-    let mut stations = [
-        record(old, Stage::Idle, false),
-        record(old, Stage::Home, false),
-        record(old, Stage::GiveBack { cell: 3 }, false),
-        record(old, Stage::Answered { answer: full }, false),
-        record(old, Stage::Check { left: 1, right: 3, at: 2 }, true),
-    ];
-    let cells_then = cells;
-    let stations_then = stations;
-    let ss = &mut stations;
-    let mut r = Register {
-        cells: &mut cells,
-        number: 5,
-    };
-    check_eq(outcome(r.collect(ss, slip((6, 3)))), Err(Refusal::OtherRegister))?;
-    check_eq(outcome(r.withdraw(ss, slip((6, 3)))), Err(Refusal::OtherRegister))?;
-    check_eq(numbers(r.begin(ss, 5, key)), Err(Refusal::NoStation))?;
-    check_eq(r.step(ss, 5), Err(Refusal::NoStation))?;
-    check_eq(outcome(r.collect(ss, slip((5, 5)))), Err(Refusal::NoStation))?;
-    check_eq(outcome(r.withdraw(ss, slip((5, 5)))), Err(Refusal::NoStation))?;
-    for s in 1..5 {
-        check_eq(numbers(r.begin(ss, s, key)), Err(Refusal::NotIdle))?;
+    for steps in 0..13 {
+        let cells: &mut [Cell<Tray>] = &mut [cell(old); 3];
+        let stations: &mut [Station<Tray>] = &mut [record(old, Stage::Home, true); 1];
+        let said = withdrawn_after(cells, stations, steps)?;
+        check_eq(said == Departure::GoesOn, 5 <= steps && steps < 12)?;
     }
-    check_eq(r.step(ss, 0), Err(Refusal::NoEntry))?;
-    check_eq(r.step(ss, 3), Err(Refusal::NoEntry))?;
-    check_eq(outcome(r.collect(ss, slip((5, 0)))), Err(Refusal::NoEntry))?;
-    check_eq(outcome(r.collect(ss, slip((5, 4)))), Err(Refusal::NoEntry))?;
-    check_eq(outcome(r.withdraw(ss, slip((5, 0)))), Err(Refusal::NoEntry))?;
-    check_eq(outcome(r.withdraw(ss, slip((5, 4)))), Err(Refusal::NoEntry))?;
-    check_eq(r.step(ss, 2), Err(Refusal::NoCell))?;
-    check_eq(outcome(r.collect(ss, slip((5, 1)))), Err(Refusal::NotAnswered))?;
-    check_eq(outcome(r.collect(ss, slip((5, 2)))), Err(Refusal::NotAnswered))?;
-    check_eq(number_of(r.enter(key)), 8)?;
-    check_eq(same(&stations, &stations_then), true)?;
-    check_eq(same_cells(&cells, &cells_then), true)
+    Ok(())
 }
 
-// Every call of a register of a wrong size is refused with 1, and opening it writes nothing.
+// Every call of a register of a wrong size is refused with 1; with a wrong count of stations those of a station with 3.
+fn all_refused(
+    r: &mut Register<Tray>,
+    stations: &mut [Station<Tray>],
+    refusal: Refusal,
+) -> Result<(), Fail> {
+    check_eq(numbers(r.begin(stations, 0, Tray::new(8)?)), Err(refusal))?;
+    check_eq(r.step(stations, 0), Err(refusal))?;
+    check_eq(outcome(r.collect(stations, slip((5, 0)))), Err(refusal))?;
+    check_eq(outcome(r.withdraw(stations, slip((5, 0)))), Err(refusal))
+}
+
 fn wrong_sized(cells: &mut [Cell<Tray>]) -> Result<(), Fail> {
     let old = Tray::new(7)?;
-    let mut stations = [record(old, Stage::Home, true); 1];
-    let stations_then = stations;
-    let ss = &mut stations;
-    let mut r = open(cells, ss, 5, Tray::new(8)?);
-    check_eq(numbers(r.begin(ss, 0, old)), Err(Refusal::WrongSize))?;
-    check_eq(r.step(ss, 0), Err(Refusal::WrongSize))?;
-    check_eq(outcome(r.collect(ss, slip((5, 0)))), Err(Refusal::WrongSize))?;
-    check_eq(outcome(r.withdraw(ss, slip((5, 0)))), Err(Refusal::WrongSize))?;
-    check_eq(number_of(r.enter(old)), 1)?;
-    check_eq(r.key_at(0).is_some(), false)?;
-    check_eq(same(&stations, &stations_then), true)
+    let stations: &mut [Station<Tray>] = &mut [record(old, Stage::Home, true); 1];
+    let mut r = open(cells, stations, 5, old);
+    all_refused(&mut r, stations, Refusal::WrongSize)?;
+    enter_all(&mut r, &[(7, 1)])?;
+    check_eq(r.key_at(0).is_some(), false)
 }
 
-#[test]
-fn numbers_of_cells() -> Result<(), Fail> {
-    let old = Tray::new(7)?;
-    wrong_sized(&mut [])?;
-    let mut many = [cell(old); 65_537];
-    wrong_sized(&mut many)?;
-    check_eq(many[65_536].marked && many[0].marked, true)?;
-    let mut stations = [record(old, Stage::Home, true); 1];
-    let mut one = [cell(old); 1];
-    let mut r = open(&mut one, &mut stations, 5, old);
-    check_eq(by_steps(&mut r, &mut stations, 0, 999)?, INSERTED)?;
-    check_eq(by_steps(&mut r, &mut stations, 0, 0)?, FULL)?;
-    check_eq(number_of(r.enter(Tray::new(999)?)), FOUND)?;
-    check_row(&mut r, &[999])?;
-    let mut most = [cell(old); 65_536];
-    let mut r = open(&mut most, &mut stations, 5, old);
-    for k in [999u16, 0, 500, 999] {
-        let _ = r.enter(Tray::new(k)?)?;
-    }
-    check_eq(by_steps(&mut r, &mut stations, 0, 500)?, FOUND)?;
-    check_eq(r.key_at(65_470).is_some() && r.key_at(0).is_some(), true)?;
-    check_eq(r.key_at(65_536).is_some() || r.key_at(usize::MAX).is_some(), false)
-}
-
-// With no records, or more than 64, the cells are prepared, whole entries work, and calls of a station are refused with 3.
 fn wrong_count(stations: &mut [Station<Tray>]) -> Result<(), Fail> {
     let old = Tray::new(7)?;
     let mut cells = [cell(old); 3];
     let mut r = open(&mut cells, stations, 5, old);
     check_row(&mut r, &[NONE, NONE, NONE])?;
-    check_eq(numbers(r.begin(stations, 0, old)), Err(Refusal::NoStation))?;
-    check_eq(r.step(stations, 0), Err(Refusal::NoStation))?;
-    check_eq(outcome(r.collect(stations, slip((5, 0)))), Err(Refusal::NoStation))?;
-    check_eq(outcome(r.withdraw(stations, slip((5, 0)))), Err(Refusal::NoStation))?;
-    check_eq(number_of(r.enter(old)), INSERTED)?;
+    all_refused(&mut r, stations, Refusal::NoStation)?;
+    enter_all(&mut r, &[(7, INSERTED)])?;
     check_row(&mut r, &[7, NONE, NONE])
 }
 
-#[test]
-fn numbers_of_stations() -> Result<(), Fail> {
+// As many cells as a register may have.
+fn most(cells: &mut [Cell<Tray>]) -> Result<(), Fail> {
     let old = Tray::new(7)?;
+    let stations: &mut [Station<Tray>] = &mut [record(old, Stage::Home, true); 1];
+    let mut r = open(cells, stations, 5, old);
+    enter_all(&mut r, &[(999, INSERTED), (0, INSERTED), (999, FOUND)])?;
+    step_all(&mut r, stations, 0, &[(500, INSERTED), (0, FOUND)])?;
+    check(r.key_at(65_470).is_some() && r.key_at(0).is_some())?;
+    check(r.key_at(65_536).is_none() && r.key_at(usize::MAX).is_none())
+}
+
+#[test]
+fn most_cells() -> Result<(), Fail> {
+    let old = Tray::new(7)?;
+    most(&mut [cell(old); 65_536])?;
+    wrong_sized(&mut [cell(old); 65_537])
+}
+
+#[test]
+fn limits() -> Result<(), Fail> {
+    let old = Tray::new(7)?;
+    wrong_sized(&mut [])?;
+    both_ways(
+        &mut [cell(old); 1],
+        &[(999, INSERTED), (0, FULL), (999, FOUND)],
+        &[999],
+    )?;
     wrong_count(&mut [])?;
-    let mut many = [record(old, Stage::Home, true); 65];
-    wrong_count(&mut many)?;
-    check_eq(many[64].withdrawn && many[0].withdrawn, true)?;
-    let mut most = [record(old, Stage::Home, true); 64];
-    let mut cells = [cell(old); 3];
-    let mut r = open(&mut cells, &mut most, 5, old);
-    check_eq(by_steps(&mut r, &mut most, 63, 500)?, INSERTED)?;
-    check_eq(by_steps(&mut r, &mut most, 0, 500)?, FOUND)?;
-    check_eq(r.step(&mut most, 64), Err(Refusal::NoStation))
+    wrong_count(&mut [record(old, Stage::Home, true); 65])
+}
+
+// A slip of another register comes back, and is spent at its own.
+fn strange_slip(
+    r: &mut Register<Tray>,
+    other: &mut Register<Tray>,
+    stations: &mut [Station<Tray>],
+) -> Result<(), Fail> {
+    let mine = numbers(r.begin(stations, 63, Tray::new(500)?))?;
+    check_eq(r.step(stations, 63)?, Progress::Answered)?;
+    let refused = outcome(other.withdraw(stations, slip(mine)));
+    check_eq(refused, Err(Refusal::OtherRegister))?;
+    let back = match other.collect(stations, slip(mine)) {
+        Ok(_) => return Err(Fail::new("collected")),
+        Err(Refused { slip, refusal: _ }) => numbers(Ok(slip))?,
+    };
+    check(back.0 == mine.0 && back.1 == mine.1)?;
+    check_eq(
+        number_of(outcome(r.collect(stations, slip(mine)))),
+        INSERTED,
+    )
 }
 
 #[test]
 fn slip_of_another_register() -> Result<(), Fail> {
     let old = Tray::new(7)?;
+    let stations: &mut [Station<Tray>] = &mut [record(old, Stage::Home, true); 64];
     let mut cells = [cell(old); 3];
     let mut others = [cell(old); 3];
-    let mut stations = [record(old, Stage::Home, true); 1];
-    let mut r = open(&mut cells, &mut stations, 5, old);
-    let mut other = open(&mut others, &mut stations, 6, old);
-    let mine = numbers(r.begin(&mut stations, 0, Tray::new(500)?))?;
-    check_eq(r.step(&mut stations, 0)?, Progress::Answered)?;
-    let back = match other.collect(&mut stations, slip(mine)) {
-        Ok(_) => return Err(Fail::new("collected")),
-        Err(Refused { slip, refusal }) => (numbers(Ok(slip))?, refusal),
-    };
-    check_eq(back.1, Refusal::OtherRegister)?;
-    check_eq(back.0 == mine, true)?;
-    check_eq(number_of(outcome(r.collect(&mut stations, slip(mine)))), INSERTED)
+    let mut r = open(&mut cells, stations, 5, old);
+    let mut other = open(&mut others, stations, 6, old);
+    strange_slip(&mut r, &mut other, stations)
+}
+
+// A row of numbers that tells these stages apart.
+fn told(stage: Stage) -> (usize, usize) {
+    match stage {
+        Stage::Idle => (0, 0),
+        Stage::Home => (1, 0),
+        Stage::GiveBack { cell } => (2, cell),
+        Stage::Answered { answer } => (3, answer as usize),
+        _ => (4, 0),
+    }
+}
+
+fn same_record(x: Station<Tray>, y: Station<Tray>) -> bool {
+    let (a, b) = told(x.stage);
+    let (c, d) = told(y.stage);
+    x.key.number() == y.key.number() && x.withdrawn == y.withdrawn && a == c && b == d
+}
+
+// The checks of the calls that name a station, by the record that they meet.
+fn refuse(
+    r: &mut Register<Tray>,
+    stations: &mut [Station<Tray>],
+    s: usize,
+    expected: [Option<Refusal>; 4],
+) -> Result<(), Fail> {
+    let [begins, steps, collects, withdraws] = expected;
+    if let Some(refusal) = begins {
+        check_eq(numbers(r.begin(stations, s, Tray::new(9)?)), Err(refusal))?;
+    }
+    if let Some(refusal) = steps {
+        check_eq(r.step(stations, s), Err(refusal))?;
+    }
+    if let Some(refusal) = collects {
+        check_eq(outcome(r.collect(stations, slip((5, s)))), Err(refusal))?;
+    }
+    if let Some(refusal) = withdraws {
+        check_eq(outcome(r.withdraw(stations, slip((5, s)))), Err(refusal))?;
+    }
+    Ok(())
+}
+
+// One record, the calls that are refused, and the record after them.
+fn refused_at(stage: Stage, withdrawn: bool, expected: [Option<Refusal>; 4]) -> Result<(), Fail> {
+    let before = record(Tray::new(8)?, stage, withdrawn);
+    let cells: &mut [Cell<Tray>] = &mut [cell(Tray::new(7)?); 3];
+    let stations: &mut [Station<Tray>] = &mut [before; 1];
+    let mut r = Register { cells, number: 5 };
+    refuse(&mut r, stations, 0, expected)?;
+    enter_all(&mut r, &[(9, 8)])?;
+    check_row(&mut r, &[7, 7, 7])?;
+    check(stations.len() == 1)?;
+    check(same_record(stations[0], before))
+}
+
+#[test]
+fn refusals() -> Result<(), Fail> {
+    let busy = Some(Refusal::NotIdle);
+    let none = Some(Refusal::NoEntry);
+    let early = Some(Refusal::NotAnswered);
+    let full = Answer::Full;
+    refused_at(Stage::Idle, false, [None, none, none, none])?;
+    refused_at(Stage::Home, false, [busy, None, early, None])?;
+    refused_at(Stage::Home, true, [busy, None, none, none])?;
+    refused_at(
+        Stage::GiveBack { cell: 3 },
+        false,
+        [busy, Some(Refusal::NoCell), early, None],
+    )?;
+    refused_at(
+        Stage::Answered { answer: full },
+        false,
+        [busy, none, None, None],
+    )?;
+    refused_at(
+        Stage::Answered { answer: full },
+        true,
+        [busy, none, none, none],
+    )
 }
