@@ -1,4 +1,6 @@
 //! Worked examples: some as theorems, by computation from the definitions, and tables of cases as tests.
+#![tactic(auto)]
+
 ghost use Rattle.examples.specs.NameExamples.{NameExamples};
 
 /// Names that are read and names that are refused.

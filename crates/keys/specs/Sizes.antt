@@ -1,13 +1,15 @@
 -- Keys that are compared by a number and have their home by its share: their laws, once for every such kind.
 use Rattle.std.specs.Prelude.{◌≡◌, ℕ, ◌-◌, ◌*◌, ◌/◌, ◌<◌, ◌≤◌, min}
 use Rattle.std.specs.declared.cmp.Ordering.TheVariants.{Less, Equal}
-use Rattle.std.proofs.Common.{arith, mul-le-mul_right, mul_comm, div-lt_iff_lt-mul, div-mul-le_self}
+use Rattle.std.proofs.Common.{ap, arith, mul-le-mul_right, mul_comm, div-lt_iff_lt-mul, div-mul-le_self}
 use Rattle.std.proofs.Math.Nat.{mul-lt-mul_of_pos_left, div-le_of_le-mul}
 use Rattle.std.proofs.lemmas.Nat.{le-div}
 use Rattle.std.proofs.lemmas.Bool.Decides.{nat_tests}
 use Rattle.std.specs.Ordering.{ordering_reverse}
 use Rattle.keys.specs.Laws.{Laws}
-use Rattle.keys.specs.Kinds.{by_size, share}
+use Rattle.keys.specs.Kinds.{by_size, share, type_order, type_home, tray_order, tray_home}
+use Rattle.keys.specs.declared.TypeNumber.{TypeNumber}
+use Rattle.keys.specs.declared.Tray.{Tray}
 
 pub size_itself : (x : ℕ) → by_size x x ≡ Equal
 size_itself x = grind (arith, nat_tests)
@@ -49,3 +51,16 @@ number_laws number limit l told = record {
   within = λ x n p q. share_below limit (number x) n l p;
   homes = λ x y n p q e. share_rises limit (number x) (number y) n l (size_less (number x) (number y) e);
 }
+
+-- the two kinds
+abbrev type_number : ℕ → TypeNumber
+type_number k = record { 0 = k }
+
+pub type_laws : Laws type_order type_home
+type_laws = number_laws (λ (x : TypeNumber). x.0) 4294967296 (omega arith) (λ x y e. ap type_number e)
+
+abbrev tray : ℕ → Tray
+tray k = record { number = k }
+
+pub tray_laws : Laws tray_order tray_home
+tray_laws = number_laws (λ (x : Tray). x.number) 1000 (omega arith) (λ x y e. ap tray e)

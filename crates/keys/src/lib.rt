@@ -1,14 +1,11 @@
 //! Kinds of key: what every key of the register can do, and two kinds, type numbers and trays.
+#![tactic(auto)]
+
 ghost use Rattle.std.specs.Prelude.{◌≡◌, ℕ};
 ghost use Rattle.std.specs.declared.cmp.Ordering.{Ordering};
-ghost use Rattle.std.proofs.Common.{ap, arith};
 ghost use Rattle.keys.specs.Laws.{Laws};
 ghost use Rattle.keys.specs.Kinds.{type_order, type_home, tray_order, tray_home, tray_of, refusal_number};
-ghost use Rattle.keys.specs.declared.TypeNumber.{TypeNumber};
-ghost use Rattle.keys.specs.Sizes.{number_laws};
-ghost use Rattle.keys.specs.TypeNumberKeyLemmas.{made};
-ghost use Rattle.keys.specs.declared.Tray.{Tray};
-ghost use Rattle.keys.specs.TrayKeyLemmas;
+ghost use Rattle.keys.specs.Sizes.{type_laws, tray_laws};
 
 use std::cmp::Ordering;
 
@@ -41,7 +38,7 @@ impl Key for TypeNumber {
 
     ghost home = { type_home };
 
-    ghost lawful = { number_laws (λ (x : TypeNumber). x.0) 4294967296 (omega arith) (λ x y e. ap made e) };
+    ghost lawful = { type_laws };
 
     fn compare(self, other: TypeNumber) -> Ordering {
         self.0.cmp(&other.0)
@@ -96,7 +93,7 @@ impl Key for Tray {
 
     ghost home = { tray_home };
 
-    ghost lawful = { number_laws (λ (x : Tray). x.number) 1000 (omega arith) (λ x y e. ap TrayKeyLemmas.made e) };
+    ghost lawful = { tray_laws };
 
     fn compare(self, other: Tray) -> Ordering {
         self.number.cmp(&other.number)

@@ -1,4 +1,6 @@
 //! Lists of names, one to a line: which line is new, which is the same name as an earlier one, which is refused.
+#![tactic(auto)]
+
 ghost use Rattle.std.specs.Prelude.{◌≡◌, ℕ, ◌+◌, ◌<◌, ◌≤◌, List, ◌++◌, length, IfOk, Some, string_bytes, codes, decimal};
 ghost use Rattle.names.specs.Reading.{reading};
 ghost use Rattle.name_list.specs.Seen.{Lawful, Noted};

@@ -1,4 +1,6 @@
 //! Mint names: read from UTF-8, kept as a key of 24 digits, compared from the first digit.
+#![tactic(auto)]
+
 ghost use Rattle.std.specs.Prelude.{◌≡◌, ◌+◌, ◌≤◌, List, Some, slice_index, refl};
 ghost use Rattle.std.specs.Ordering.{is_eq};
 ghost use Rattle.names.specs.Letters.{Letter};

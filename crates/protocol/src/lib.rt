@@ -5,6 +5,8 @@
 //! `proofs/` shows it for every kind of key. Here stand the types that both speak of.
 //!
 //! A *place* counts the cells together with the two edges: 0 is the left edge, i + 1 is cell i, and N + 1 is the right edge.
+#![tactic(auto)]
+
 ghost use Rattle.std.specs.Prelude.{◌≡◌};
 ghost use Rattle.protocol.specs.Refusals.{number_of};
 ghost use Rattle.protocol.specs.Safety.{Safe};

@@ -4,6 +4,8 @@
 //! or a whole entry is made in one call. Each call's contract is one equation with the protocol's definition of that call,
 //! over the memory behind its references at the entry and at the exit; and `open` promises of the register that it opens
 //! that no turns whatever split a key.
+#![tactic(auto)]
+
 ghost use Rattle.std.specs.Prelude.{◌≡◌, ℕ, List, Err};
 ghost use Rattle.protocol.specs.declared.Refusal.{Refusal as RefusalOf};
 ghost use Rattle.protocol.specs.declared.Station.{Station as StationOf};

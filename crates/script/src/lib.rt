@@ -1,4 +1,6 @@
 //! Scripts of turns: a text of orders, one to a line, that drives several stations over one register of trays.
+#![tactic(auto)]
+
 mod hands;
 mod orders;
 mod plays;

@@ -1,5 +1,7 @@
 //! Reads names from standard input, one to a line, and says of each whether it is new, which earlier line has the same name, or
 //! why it is refused.
+#![tactic(auto)]
+
 use name_list::{MOST_LINES, Tally, answer_lines, printed};
 use std::io::Read;
 

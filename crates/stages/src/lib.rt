@@ -2,6 +2,8 @@
 //!
 //! `Entry::turn` makes one step: it reads what the stage asks for, sets the stage to the next one by the rule of the present one,
 //! and makes the one act on the cells. Its contract is one equation with the protocol's definition of a step.
+#![tactic(auto)]
+
 ghost use Rattle.std.specs.Prelude.{◌≡◌, length};
 ghost use Rattle.protocol.specs.Step.{kind_over};
 ghost use Rattle.protocol.specs.Calls.{bad_size};

@@ -1,4 +1,6 @@
 //! Plays a script of turns from standard input over a register of ten trays with four stations, and prints each reply.
+#![tactic(auto)]
+
 use anyhow::anyhow;
 use keys::Tray;
 use protocol::Cell;

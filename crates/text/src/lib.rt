@@ -1,4 +1,6 @@
 //! Text as bytes: its lines, its words and its numbers.
+#![tactic(auto)]
+
 ghost use Rattle.std.specs.Prelude.{◌≡◌, ◌≤◌, length};
 ghost use Rattle.std.specs.Str.{bytes_eq};
 ghost use Rattle.text.specs.Lines.{end_at, first_line, after_line};

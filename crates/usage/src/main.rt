@@ -1,4 +1,6 @@
 //! How a program uses a register: it lends cells and station records, makes a whole entry, begins an entry by steps, and spends the slip.
+#![tactic(auto)]
+
 use anyhow::anyhow;
 use keys::Tray;
 use protocol::{Answer, Cell, Departure, Refusal, Stage, Station};

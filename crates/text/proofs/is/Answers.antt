@@ -9,5 +9,5 @@ same_test xs ys r h = search (rules, bytes_eq-Decides)
 
 pub returns : goal.returns
 returns c =
-    subst (λ ys. c.eq.result ≡ bytes_eq c.args.word.now ys) c.as-bytes.ensures.value
-    (same_test c.args.word.now c.as-bytes.result.now c.eq.result (slice_eq-Decides Decides-eqb _ _ _ c.eq.ensures))
+    subst (λ ys. c.eq.result ≡ bytes_eq c.args.word.now ys) c.as_bytes.ensures.value
+    (same_test c.args.word.now c.as_bytes.result.now c.eq.result (slice_eq-Decides Decides-eqb _ _ _ c.eq.ensures))

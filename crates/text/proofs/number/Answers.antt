@@ -11,11 +11,11 @@ returns-then-b-lt48 c =
       | then-b-lt48-via-else-b-lt48+then-b-gt57 w ↦ inr w.if-b-gt57.true
     ]))
 
-pub overflow-mul-n : goal.overflow-mul-n
-overflow-mul-n c = omega (arith, room c.args.word.now c.loop-b.b-index c.loop-b.n c.loop-b.invariant (omega arith))
+pub overflow_mul-n : goal.overflow_mul-n
+overflow_mul-n c = omega (arith, room c.args.word.now c.loop-b.b-index c.loop-b.n c.loop-b.invariant (omega arith))
 
-pub overflow-add-n : goal.overflow-add-n
-overflow-add-n c = omega (arith, room c.args.word.now c.loop-b.b-index c.loop-b.n c.loop-b.invariant (omega arith), c.from.ensures)
+pub overflow_add-n : goal.overflow_add-n
+overflow_add-n c = omega (arith, room c.args.word.now c.loop-b.b-index c.loop-b.n c.loop-b.invariant (omega arith), c.from.ensures)
 
 pub loop-b-preserved : goal.loop-b-preserved
 loop-b-preserved c =

@@ -3,8 +3,8 @@ use Rattle.keys.specs.Sizes.{part_most}
 use Rattle.names.specs.KeyLaws.{home_by_two}
 use Rattle.names.proofs.NameKey.home.Goals as goal
 
-pub overflow-cast-result-2 : goal.overflow-cast-result-2
-overflow-cast-result-2 c = omega (arith, part_most 1048576 c.first-two.result c.args.n (omega arith))
+pub overflow_cast-result-2 : goal.overflow_cast-result-2
+overflow_cast-result-2 c = omega (arith, part_most 1048576 c.first-two.result c.args.n (omega arith))
 
 pub returns : goal.returns
 returns c = ap (λ k. k * c.args.n / 1048576) c.first-two.ensures ∙ home_by_two c.args.self c.args.n

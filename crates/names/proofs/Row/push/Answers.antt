@@ -8,8 +8,8 @@ returns-in-Some c = λ xs h.
     push_refused xs c.args.self c.args.c c.args.place c.mark-of-mark.result c.digit-of-digit.result c.in-Some.reason h
     (c.mark-of-mark.ensures ∙ mark_is c.args.c) c.digit-of-digit.ensures c.in-Some.ensures
 
-pub overflow-add-digits : goal.overflow-add-digits
-overflow-add-digits c =
+pub overflow_add-digits : goal.overflow_add-digits
+overflow_add-digits c =
     let t = mark_allowed c.args.self.plain c.args.self.count c.mark-of-mark.result c.digit-of-digit.result c.in-default.ensures c.if-mark-gt0.true in
     let f = last_plain c.args.self c.requires t in
     let m = c.mark-of-mark.ensures ∙ mark_is c.args.c in

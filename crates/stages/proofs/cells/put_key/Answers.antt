@@ -17,8 +17,8 @@ returns-else-place-gt0 g c =
       | else-place-gt0-via-else-place-gt0 w ↦ inl (omega (arith, w.if-place-gt0.false))
     ])
 
-pub offset-bounds-cells-place : goal.offset-bounds-cells-place
-offset-bounds-cells-place g c = let h : c.args.place - 1 < length c.args.cells.now = omega arith in search rules
+pub offset_bounds-cells-place : goal.offset_bounds-cells-place
+offset_bounds-cells-place g c = let h : c.args.place - 1 < length c.args.cells.now = omega arith in search rules
 
-pub offset-bounds-cells-place-then-place-cells : goal.offset-bounds-cells-place-then-place-cells
-offset-bounds-cells-place-then-place-cells g c = let h : c.args.place - 1 < length c.args.cells.now = omega arith in search rules
+pub offset_bounds-cells-place-then-place-cells : goal.offset_bounds-cells-place-then-place-cells
+offset_bounds-cells-place-then-place-cells g c = let h : c.args.place - 1 < length c.args.cells.now = omega arith in search rules
