@@ -192,7 +192,7 @@ impl Refusal {
 /// The safety of the protocol, for this kind of key: whatever was in memory before the opening, and whatever turns follow it,
 /// no key is new twice, marks are held as they should be, and all answers are those of one worker alone.
 pub fn protocol_is_safe<K: Key>()
-    ensures { Safe order home }
+    ensures { Safe K.order K.home }
 {}
 
 /// The worked examples of the rules, over trays.
