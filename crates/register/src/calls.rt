@@ -127,7 +127,7 @@ pub fn step<K: Key>(
     stations: &mut [Station<K>],
     s: usize,
 ) -> Result<Progress, Refusal>
-    ensures { (number : ℕ) → (world number cells.new stations.new, result) ≡ stepping (kind_over order home (length cells.old)) (world number cells.old stations.old) s }
+    ensures { (number : ℕ) → (world number cells.new stations.new, result) ≡ stepping (kind_over K.order K.home (length cells.old)) (world number cells.old stations.old) s }
 {
     let Station {
         key,
@@ -147,7 +147,7 @@ pub fn step<K: Key>(
 
 /// A whole entry: a fresh station's steps, until one stays at home, returns to it or is answered.
 pub fn enter<K: Key>(cells: &mut [Cell<K>], key: K) -> Result<Answer, Refusal>
-    ensures { (number : ℕ) (ts : List (StationOf K)) → (world number cells.new ts, result) ≡ whole_entry (kind_over order home (length cells.old)) (world number cells.old ts) key }
+    ensures { (number : ℕ) (ts : List (StationOf K)) → (world number cells.new ts, result) ≡ whole_entry (kind_over K.order K.home (length cells.old)) (world number cells.old ts) key }
 {
     if wrong_size(cells.len()) {
         return Err(Refusal::WrongSize);

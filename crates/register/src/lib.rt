@@ -41,7 +41,7 @@ pub fn open<'a, K: Key>(
     filler: K,
 ) -> Register<'a, K>
     ensures opened { behind result stations.new ≡ opening number cells.old stations.old filler }
-    ensures safe { SafeFrom order home (behind result stations.new) }
+    ensures safe { SafeFrom K.order K.home (behind result stations.new) }
 {
     opening::prepare(cells, stations, filler);
     Register { cells, number }
@@ -55,21 +55,21 @@ impl<'a, K: Key> Register<'a, K> {
         station: usize,
         key: K,
     ) -> Result<Slip, Refusal>
-        ensures { (behind self.new stations.new, result) ≡ hands_out (turned order home (behind self.old stations.old) (Begin station key)) }
+        ensures { (behind self.new stations.new, result) ≡ hands_out (turned K.order K.home (behind self.old stations.old) (Begin station key)) }
     {
         calls::begin(self.cells.len(), self.number, stations, station, key)
     }
 
     /// One step of a station.
     pub fn step(&mut self, stations: &mut [Station<K>], station: usize) -> Result<Progress, Refusal>
-        ensures { (behind self.new stations.new, result) ≡ turned order home (behind self.old stations.old) (Step station) }
+        ensures { (behind self.new stations.new, result) ≡ turned K.order K.home (behind self.old stations.old) (Step station) }
     {
         calls::step(self.cells, stations, station)
     }
 
     /// Collects an answered entry: spends its slip and gives its answer. A refused slip comes back.
     pub fn collect(&mut self, stations: &mut [Station<K>], slip: Slip) -> Result<Answer, Refused>
-        ensures { (behind self.new stations.new, result) ≡ hands_back slip (turned order home (behind self.old stations.old) (Collect slip.register slip.station)) }
+        ensures { (behind self.new stations.new, result) ≡ hands_back slip (turned K.order K.home (behind self.old stations.old) (Collect slip.register slip.station)) }
     {
         calls::collect(self.cells.len(), self.number, stations, slip)
     }
@@ -80,14 +80,14 @@ impl<'a, K: Key> Register<'a, K> {
         stations: &mut [Station<K>],
         slip: Slip,
     ) -> Result<Departure, Refused>
-        ensures { (behind self.new stations.new, result) ≡ hands_back slip (turned order home (behind self.old stations.old) (Withdraw slip.register slip.station)) }
+        ensures { (behind self.new stations.new, result) ≡ hands_back slip (turned K.order K.home (behind self.old stations.old) (Withdraw slip.register slip.station)) }
     {
         calls::withdraw(self.cells.len(), self.number, stations, slip)
     }
 
     /// A whole entry: a fresh station's steps in one call. It is refused where a mark bars it, and has then written nothing.
     pub fn enter(&mut self, key: K) -> Result<Answer, Refusal>
-        ensures entered { (ts : List (StationOf K)) → (behind self.new ts, result) ≡ turned order home (behind self.old ts) (Enter key) }
+        ensures entered { (ts : List (StationOf K)) → (behind self.new ts, result) ≡ turned K.order K.home (behind self.old ts) (Enter key) }
         ensures refused { (e : RefusalOf) → result ≡ Err e → self.new.cells.now ≡ self.old.cells.now }
     {
         calls::enter(self.cells, key)

@@ -34,7 +34,7 @@ pub fn marked_at<K: Key>(cells: &[Cell<K>], place: usize) -> bool
 
 /// How the key at a place stands to this one, if the place holds a key.
 pub fn order_at<K: Key>(cells: &[Cell<K>], key: K, place: usize) -> Option<Ordering>
-    ensures { result ≡ order_of order key (contents cells.now place) }
+    ensures { result ≡ order_of K.order key (contents cells.now place) }
 {
     match held_at(cells, place) {
         None => None,
@@ -45,7 +45,7 @@ pub fn order_at<K: Key>(cells: &[Cell<K>], key: K, place: usize) -> Option<Order
 /// The walk of look and check for a key whose home is at `h`, at the place `at`: the key itself, the walk's end, or the place to go on to.
 pub fn walk<K: Key>(cells: &[Cell<K>], key: K, h: usize, at: usize) -> Walk
     requires few { length cells.now ≤ 65536 }
-    ensures { result ≡ walk_at h at (versus (kind_over order home (length cells.now)) key (contents cells.now at)) }
+    ensures { result ≡ walk_at h at (versus (kind_over K.order K.home (length cells.now)) key (contents cells.now at)) }
 {
     match held_at(cells, at) {
         None => Walk::Ended,
@@ -85,7 +85,7 @@ pub fn beside_gap(towards: Direction, gap: usize) -> usize
 /// The shift's copy: the key beside the gap, if it is due to be copied into the gap.
 pub fn shift<K: Key>(cells: &[Cell<K>], key: K, towards: Direction, gap: usize) -> Option<K>
     requires { gap ≤ 65536 }
-    ensures { result ≡ due_of order key towards (contents cells.now (beside towards gap)) }
+    ensures { result ≡ due_of K.order key towards (contents cells.now (beside towards gap)) }
 {
     match held_at(cells, beside_gap(towards, gap)) {
         None => None,

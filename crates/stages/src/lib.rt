@@ -37,7 +37,7 @@ impl<K: Key> Entry<K> {
     /// One step of an entry. Refused with 1 over 0 cells or more than 65,536, and with 6 where the stage names a cell that is none;
     /// then nothing changes.
     pub fn turn(&mut self, cells: &mut [Cell<K>]) -> Result<(), Refusal>
-        ensures { (cells.new, self.new, result) ≡ turning (kind_over order home (length cells.old)) cells.old self.old }
+        ensures { (cells.new, self.new, result) ≡ turning (kind_over K.order K.home (length cells.old)) cells.old self.old }
     {
         if wrong_size(cells.len()) {
             return Err(Refusal::WrongSize);

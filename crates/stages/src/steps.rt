@@ -28,7 +28,7 @@ fn unread<K: Key>() -> Reading<K>
 
 /// Reads a place's mark, and whether it is occupied.
 fn sight<K: Key>(cells: &[Cell<K>], key: K, place: usize) -> Reading<K>
-    ensures { result ≡ seen_at (kind_over order home (length cells.now)) cells.now key place }
+    ensures { result ≡ seen_at (kind_over K.order K.home (length cells.now)) cells.now key place }
 {
     let mut r = unread();
     r.marked = marked_at(cells, place);
@@ -40,8 +40,8 @@ fn sight<K: Key>(cells: &[Cell<K>], key: K, place: usize) -> Reading<K>
 fn read<K: Key>(cells: &[Cell<K>], entry: Entry<K>, h: usize) -> Reading<K>
     requires few { length cells.now ≤ 65536 }
     requires named { names_cells (length cells.now) entry.stage ≡ true }
-    requires home { h ≡ suc (home entry.key (length cells.now)) }
-    ensures { result ≡ reading (kind_over order home (length cells.now)) cells.now entry.key entry.stage }
+    requires home { h ≡ suc (K.home entry.key (length cells.now)) }
+    ensures { result ≡ reading (kind_over K.order K.home (length cells.now)) cells.now entry.key entry.stage }
 {
     let key = entry.key;
     let mut r = unread();
@@ -79,8 +79,8 @@ pub fn make_step<K: Key>(cells: &mut [Cell<K>], entry: &mut Entry<K>)
     requires some { 1 ≤ length cells.old }
     requires few { length cells.old ≤ 65536 }
     requires named { names_cells (length cells.old) entry.old.stage ≡ true }
-    ensures entry { entry.new ≡ record { key = entry.old.key; stage = (decision (kind_over order home (length cells.old)) cells.old entry.old.key entry.old.stage).next } }
-    ensures cells { cells.new ≡ cells_after (decision (kind_over order home (length cells.old)) cells.old entry.old.key entry.old.stage).act cells.old }
+    ensures entry { entry.new ≡ record { key = entry.old.key; stage = (decision (kind_over K.order K.home (length cells.old)) cells.old entry.old.key entry.old.stage).next } }
+    ensures cells { cells.new ≡ cells_after (decision (kind_over K.order K.home (length cells.old)) cells.old entry.old.key entry.old.stage).act cells.old }
 {
     let n = cells.len();
     let h = entry.key.home(n) + 1;
