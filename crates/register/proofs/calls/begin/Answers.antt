@@ -16,4 +16,4 @@ returns-in-Ok g c = λ cs.
     (λ t. (world c.args.number cs (set c.args.stations.now c.args.s t), Ok record { register = c.args.number; station = c.args.s }))
     c.started.ensures
     ∙ ap hands_out
-    (begun c.args.n (world c.args.number cs c.args.stations.now) c.args.s c.args.key c.in-Ok.-t c.in-Ok.ensures.value)
+    (begun c.args.n (world c.args.number cs c.args.stations.now) c.args.s c.args.key c.in-Ok._t c.in-Ok.ensures.value)

@@ -10,17 +10,17 @@ returns-in-Err g c = λ cs.
     (collect_refused c.args.n (world c.args.number cs c.args.stations.now) c.args.slip.station c.args.slip.register
     c.in-Err.refusal c.in-Err.ensures.value)
 
-pub returns-in-Err-answer-at : goal.returns-in-Err-answer-at
-returns-in-Err-answer-at g c = λ cs.
+pub returns-in-Err-answer_at : goal.returns-in-Err-answer_at
+returns-in-Err-answer_at g c = λ cs.
     ap (hands_back c.args.slip)
     (not_collected c.args.n (world c.args.number cs c.args.stations.now) c.args.slip.station c.args.slip.register
-    c.in-Ok.t c.in-Ok.ensures.value c.in-Err-answer-at.refusal c.in-Err-answer-at.ensures)
+    c.in-Ok.t c.in-Ok.ensures.value c.in-Err-answer_at.refusal c.in-Err-answer_at.ensures)
 
-pub returns-in-Ok-answer-at : goal.returns-in-Ok-answer-at
-returns-in-Ok-answer-at g c = λ cs.
+pub returns-in-Ok-answer_at : goal.returns-in-Ok-answer_at
+returns-in-Ok-answer_at g c = λ cs.
     ap
-    (λ t. (world c.args.number cs (set c.args.stations.now c.args.slip.station t), Ok c.in-Ok-answer-at.answer))
+    (λ t. (world c.args.number cs (set c.args.stations.now c.args.slip.station t), Ok c.in-Ok-answer_at.answer))
     c.rested.ensures
     ∙ ap (hands_back c.args.slip)
     (collected c.args.n (world c.args.number cs c.args.stations.now) c.args.slip.station c.args.slip.register
-    c.in-Ok.t c.in-Ok.ensures.value c.in-Ok-answer-at.answer c.in-Ok-answer-at.ensures)
+    c.in-Ok.t c.in-Ok.ensures.value c.in-Ok-answer_at.answer c.in-Ok-answer_at.ensures)

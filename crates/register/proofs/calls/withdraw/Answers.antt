@@ -11,16 +11,16 @@ returns-in-Err g c = λ cs.
     (withdraw_refused c.args.n (world c.args.number cs c.args.stations.now) c.args.slip.station c.args.slip.register
     c.in-Err.refusal c.in-Err.ensures.value)
 
-pub returns-then-holds-mark : goal.returns-then-holds-mark
-returns-then-holds-mark g c = λ cs.
+pub returns-then-holds_mark : goal.returns-then-holds_mark
+returns-then-holds_mark g c = λ cs.
     ap (λ t. (world c.args.number cs (set c.args.stations.now c.args.slip.station t), Ok GoesOn)) c.departing.ensures
     ∙ ap (hands_back c.args.slip)
     (withdrawn c.args.n (world c.args.number cs c.args.stations.now) c.args.slip.station c.args.slip.register
-    c.in-Ok.t c.in-Ok.ensures.value true c.if-holds-mark.ensures)
+    c.in-Ok.t c.in-Ok.ensures.value true c.if-holds_mark.ensures)
 
-pub returns-else-holds-mark : goal.returns-else-holds-mark
-returns-else-holds-mark g c = λ cs.
+pub returns-else-holds_mark : goal.returns-else-holds_mark
+returns-else-holds_mark g c = λ cs.
     ap (λ t. (world c.args.number cs (set c.args.stations.now c.args.slip.station t), Ok Gone)) c.rested.ensures
     ∙ ap (hands_back c.args.slip)
     (withdrawn c.args.n (world c.args.number cs c.args.stations.now) c.args.slip.station c.args.slip.register
-    c.in-Ok.t c.in-Ok.ensures.value false c.if-holds-mark.ensures)
+    c.in-Ok.t c.in-Ok.ensures.value false c.if-holds_mark.ensures)
