@@ -1,5 +1,5 @@
 -- A refused whole entry has written nothing.
-use Rattle.std.proofs.Common.{◌≡◌, ℕ, List, [], length, Err, Result, Ordering, sym, ap, ◌∙◌}
+use Rattle.std.proofs.Common.{◌≡◌, ℕ, List, [], Err, Result, Ordering, sym, ap, ◌∙◌}
 use Rattle.keys.specs.Laws.{Laws}
 use Rattle.protocol.specs.declared.Answer.{Answer}
 use Rattle.protocol.specs.declared.Cell.{Cell}

@@ -1,23 +1,27 @@
 -- Each call is its checks, and then what it does with the record.
-use Rattle.std.proofs.Common.{◌≡◌, ℕ, Bool, true, false, cond, not, ◌||◌, eqb, List, length, set, IsErrAnd, sym, refl, ap, ◌∙◌}
+use Rattle.std.proofs.Common.{◌≡◌, ℕ, ◌≤◌, arith, Bool, true, false, cond, not, ◌||◌, eqb, List, length, set, IsErrAnd, sym, refl, ap, ◌∙◌}
+use Rattle.std.proofs.lemmas.Bool.Decides.{nat_tests}
 use Rattle.std.proofs.lemmas.Bool.{both_ways}
 use Rattle.std.proofs.lemmas.Result.{err_from_is_err_and}
 use Rattle.protocol.specs.declared.Cell.{Cell}
 use Rattle.protocol.specs.declared.Station.{Station}
 use Rattle.protocol.specs.declared.Answer.{Answer}
 use Rattle.protocol.specs.declared.Stage.{Stage}
-use Rattle.protocol.specs.declared.Departure.{Departure}
 use Rattle.protocol.specs.declared.Progress.{Progress}
 use Rattle.protocol.specs.declared.Refusal.{Refusal}
 use Rattle.protocol.specs.declared.Refusal.TheVariants.{WrongSize, OtherRegister, NoStation, NotIdle, NoEntry, NoCell}
 use Rattle.protocol.specs.Cells.{Content, empty, holds, nth}
 use Rattle.protocol.specs.Stages.{Standing, resting, homing, under_way, done, standing, busy, is_idle, settled, holds_mark, names_cells}
-use Rattle.protocol.specs.Step.{Kind, Decision}
-use Rattle.protocol.specs.Calls.{Result, Ok, Err, World, Out, SlipNumbers, bad_size, bad_count, refused_if, for_record, at_station, put_record, fresh, idled, beginning, collecting_at, collecting, withdrawing_at, withdrawing, says, stepped_record, stepping_by, decision, stepping}
+use Rattle.protocol.specs.Step.{Kind}
+use Rattle.protocol.specs.Calls.{Result, Ok, Err, World, Out, bad_size, bad_count, refused_if, for_record, at_station, put_record, fresh, idled, beginning, collecting_at, collecting, withdrawing_at, withdrawing, says, stepped_record, stepping_by, decision, stepping}
 use Rattle.stages.specs.declared.Entry.{Entry}
 use Rattle.stages.specs.Turning.{Turned, turned_down, step_made, turning}
 use Rattle.register.specs.Checks.{seated, admitted, unless, to_begin, to_step, to_withdraw, to_collect, answer_by}
 use Rattle.register.specs.Memory.{world}
+
+-- as many cells as a register may have
+pub good_size : (n : ℕ) → 1 ≤ n → n ≤ 65536 → false ≡ bad_size n
+good_size n some few = grind (arith, nat_tests)
 
 -- what a `?` hands on
 handed_on : {A : Type 0} (r : Result A Refusal) (e : Refusal) → IsErrAnd r (λ x. x ≡ e) → r ≡ Err e

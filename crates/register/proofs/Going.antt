@@ -1,5 +1,5 @@
 -- The loop of a whole entry: what it has come to, and that it ends.
-use Rattle.std.proofs.Common.{◌≡◌, ℕ, zero, suc, ◌<◌, ◌≤◌, Bool, true, false, List, length, Ordering, sym, refl, ap, ◌∙◌, subst, ⊎_elim, arith}
+use Rattle.std.proofs.Common.{◌≡◌, ℕ, zero, suc, ◌<◌, ◌≤◌, true, false, List, length, Ordering, sym, refl, ap, ◌∙◌, subst, ⊎_elim, arith}
 use Rattle.std.proofs.lemmas.Bool.{both_ways, cond-true, cond-false}
 use Rattle.keys.specs.Laws.{Laws}
 use Rattle.protocol.specs.declared.Cell.{Cell}
@@ -12,7 +12,7 @@ use Rattle.protocol.specs.declared.Refusal.TheVariants.{WrongSize, NoCell, Barre
 use Rattle.protocol.specs.Cells.{contents, marks, cells_after}
 use Rattle.protocol.specs.Stages.{Standing, resting, homing, under_way, done, standing, busy_by, busy, is_idle, names_cells}
 use Rattle.protocol.specs.Step.{Kind, kind_over, Decision}
-use Rattle.protocol.specs.Calls.{Result, Ok, Err, World, Out, bad_size, refused_if, decision, ends_by, alone, enough, whole_answer, whole_entry_by, whole_entry}
+use Rattle.protocol.specs.Calls.{Result, Ok, Err, World, bad_size, refused_if, decision, ends_by, alone, enough, whole_answer, whole_entry_by, whole_entry}
 use Rattle.protocol.proofs.Lawful.{Lawful, lawful}
 use Rattle.protocol.proofs.Places.{length_after, contents_inside}
 use Rattle.protocol.proofs.Ends.{left_over, Wide, Falls, falls, positive}

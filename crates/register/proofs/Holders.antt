@@ -1,6 +1,6 @@
 -- What the holder of a slip can rely on: from the beginning on, through any steps, refused collections and turns of others, its withdrawal is not refused.
-use Rattle.std.proofs.Common.{◌≡◌, ℕ, zero, suc, ◌<◌, Bool, true, false, not, ◌&&◌, ◌||◌, eqb, ◌≢◌, ◌⊎◌, List, [], ◌∷◌, length, set, Some, None, Ok, Err, Option, Result, Ordering, Less, Equal, Greater, sym, refl, ap, ◌∙◌, subst, inl, inr, arith, length-set}
-use Rattle.std.proofs.lemmas.Bool.Decides.{nat_tests, eqb_tells}
+use Rattle.std.proofs.Common.{◌≡◌, ℕ, zero, suc, ◌<◌, Bool, true, false, not, ◌&&◌, ◌||◌, eqb, ◌≢◌, List, [], ◌∷◌, length, Some, None, Ok, Err, Option, Result, Ordering, Less, Equal, Greater, sym, refl, ap, ◌∙◌, subst, arith, length-set}
+use Rattle.std.proofs.lemmas.Bool.Decides.{nat_tests}
 use Rattle.protocol.specs.declared.Cell.{Cell}
 use Rattle.protocol.specs.declared.Station.{Station}
 use Rattle.protocol.specs.Cells.{nth, cell, contents, marks, cells_after, is_occupied}
@@ -13,10 +13,10 @@ use Rattle.protocol.specs.declared.Walk.TheVariants.{Here, Ended, Onward}
 use Rattle.protocol.specs.Step.{kind_over, Kind, Decision, Versus, none, is, at_home, at_look, at_left, at_right, at_first, at_second, give_up, absent, at_check, copied, at_shift, release, versus, decide, walk_at, is_after, beside, copy_due}
 use Rattle.protocol.specs.declared.Direction.{Direction}
 use Rattle.protocol.specs.declared.Refusal.{Refusal}
-use Rattle.protocol.specs.declared.Refusal.TheVariants.{WrongSize, OtherRegister, NoStation, NotIdle, NoEntry, NoCell, NotAnswered}
+use Rattle.protocol.specs.declared.Refusal.TheVariants.{WrongSize, OtherRegister, NoStation, NotIdle, NoEntry, NoCell}
 use Rattle.protocol.specs.declared.Progress.{Progress}
 use Rattle.protocol.specs.declared.Departure.{Departure}
-use Rattle.protocol.specs.Calls.{World, Out, SlipNumbers, bad_size, bad_count, refused_if, for_record, at_station, put_record, fresh, idled, leaving, beginning, collecting_at, collecting, withdrawing_at, withdrawing, stepped_record, stepping_by, decision, stepping, ends_by, alone, enough, whole_entry}
+use Rattle.protocol.specs.Calls.{World, Out, SlipNumbers, bad_size, bad_count, refused_if, for_record, put_record, fresh, idled, leaving, beginning, collecting_at, collecting, withdrawing_at, withdrawing, stepped_record, decision, stepping, ends_by, alone, enough, whole_entry}
 use Rattle.protocol.specs.Turns.{begin as Begin, step as Step, collect as Collect, withdraw as Withdraw, turned}
 use Rattle.register.specs.declared.slips.Slip.{Slip}
 use Rattle.register.specs.declared.slips.Refused.{Refused}

@@ -1,12 +1,12 @@
 -- The checks of each call, in their order: the record of the station that a call is about, or the refusal.
-use Rattle.std.specs.Prelude.{ℕ, Bool, true, false, cond, not, ◌||◌, List, length}
+use Rattle.std.specs.Prelude.{ℕ, Bool, true, cond, not, ◌||◌, List, length}
 use Rattle.protocol.specs.declared.Station.{Station}
 use Rattle.protocol.specs.declared.Answer.{Answer}
 use Rattle.protocol.specs.declared.Refusal.{Refusal}
 use Rattle.protocol.specs.declared.Refusal.TheVariants.{WrongSize, OtherRegister, NoStation, NotIdle, NoEntry, NoCell, NotAnswered}
 use Rattle.protocol.specs.Cells.{Content, empty, holds, nth}
-use Rattle.protocol.specs.Stages.{Standing, resting, homing, under_way, done, standing, busy, is_idle, names_cells}
-use Rattle.protocol.specs.Calls.{Result, Ok, Err, World, Out, bad_size, bad_count}
+use Rattle.protocol.specs.Stages.{Standing, resting, homing, under_way, done, busy, is_idle, names_cells}
+use Rattle.protocol.specs.Calls.{Result, Ok, Err, bad_size, bad_count}
 
 module _ {K : Type 0} where
   abbrev pub seated : Content (Station K) → Result (Station K) Refusal
