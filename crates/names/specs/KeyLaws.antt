@@ -4,17 +4,18 @@ use Rattle.std.specs.declared.cmp.Ordering.TheVariants.{Less, Equal, Greater}
 use Rattle.std.specs.declared.cmp.Ordering.{Ordering}
 use Rattle.std.proofs.Common.{sym, ◌∙◌, ap, arith}
 use Rattle.std.proofs.lemmas.Bool.Decides.{nat_tests}
-use Rattle.std.specs.Ordering.{is_eq, ordering_reverse, ordering_then}
+use Rattle.std.specs.Ordering.{is_eq, eq_by_cmp, ordering_reverse, ordering_then}
+use Rattle.std.specs.Cmp.{IsEquivalence, IsTotalOrder, eq_by_cmp_equiv}
 use Rattle.keys.specs.Laws.{Laws}
 use Rattle.keys.specs.Kinds.{by_size, share}
 use Rattle.keys.specs.Sizes.{size_itself, size_equal, share_below, share_rises}
 use Rattle.names.specs.declared.Name.{Name}
 use Rattle.names.specs.Digits.{digits_of_word, digits_of, by_digits, name_order, name_home, by_words, first_two}
 
-then-then : (a b c : Ordering) → ordering_then (ordering_then a b) c ≡ ordering_then a (ordering_then b c)
-then-then Less b c = refl
-then-then Equal b c = refl
-then-then Greater b c = refl
+then_then : (a b c : Ordering) → ordering_then (ordering_then a b) c ≡ ordering_then a (ordering_then b c)
+then_then Less b c = refl
+then_then Equal b c = refl
+then_then Greater b c = refl
 
 then_equal : (c : Ordering) → ordering_then c Equal ≡ c
 then_equal Less = refl
@@ -29,17 +30,17 @@ word_first : (n a b : ℕ) (ds es : List ℕ) → by_digits (digits_of_word n a 
 word_first zero a b ds es = refl
 word_first (suc n) a b ds es =
     word_first n (a / 1024) (b / 1024) (a % 1024 ∷ ds) (b % 1024 ∷ es)
-    ∙ sym (then-then (by_size (a / 1024) (b / 1024)) (by_size (a % 1024) (b % 1024)) (by_digits ds es))
+    ∙ sym (then_then (by_size (a / 1024) (b / 1024)) (by_size (a % 1024) (b % 1024)) (by_digits ds es))
     ∙ ap (λ (o : Ordering). ordering_then o (by_digits ds es)) (size_by_digit a b)
 
 pub order_by_words : (x y : Name) → name_order x y ≡ by_words x y
 unfolding name_order digits_of
 order_by_words x y =
-    let lowDigits : Name → List ℕ = λ z. digits_of_word 7 z.low [] in
-    let laterDigits : Name → List ℕ = λ z. digits_of_word 7 z.middle (lowDigits z) in
-    word_first 7 x.high y.high (laterDigits x) (laterDigits y)
+    let low_digits : Name → List ℕ = λ z. digits_of_word 7 z.low [] in
+    let later_digits : Name → List ℕ = λ z. digits_of_word 7 z.middle (low_digits z) in
+    word_first 7 x.high y.high (later_digits x) (later_digits y)
     ∙ ap (ordering_then (by_size x.high y.high)) (
-    word_first 7 x.middle y.middle (lowDigits x) (lowDigits y)
+    word_first 7 x.middle y.middle (low_digits x) (low_digits y)
     ∙ ap (ordering_then (by_size x.middle y.middle)) (word_first 7 x.low y.low [] [] ∙ then_equal (by_size x.low y.low)))
 
 -- the first two digits are the number above the last six of the first word
@@ -58,15 +59,15 @@ home_by_two x n = sym (home_by_word x n)
 words_itself : (x : Name) → by_words x x ≡ Equal
 words_itself x = simp (size_itself x.high, size_itself x.middle, size_itself x.low)
 
-then-equal-both : (c d : Ordering) → ordering_then c d ≡ Equal → (c ≡ Equal) × (d ≡ Equal)
-then-equal-both Less d e = (e, cc)
-then-equal-both Equal d e = (refl, e)
-then-equal-both Greater d e = (e, cc)
+then_equal_both : (c d : Ordering) → ordering_then c d ≡ Equal → (c ≡ Equal) × (d ≡ Equal)
+then_equal_both Less d e = (e, cc)
+then_equal_both Equal d e = (refl, e)
+then_equal_both Greater d e = (e, cc)
 
 words_equal : (x y : Name) → by_words x y ≡ Equal → x ≡ y
 words_equal x y e =
-    let a = then-equal-both (by_size x.high y.high) _ e in
-    let b = then-equal-both (by_size x.middle y.middle) _ a.1 in
+    let a = then_equal_both (by_size x.high y.high) _ e in
+    let b = then_equal_both (by_size x.middle y.middle) _ a.1 in
     let h : x.high ≡ y.high = size_equal x.high y.high a.0 in
     let m : x.middle ≡ y.middle = size_equal x.middle y.middle b.0 in
     let l : x.low ≡ y.low = size_equal x.low y.low b.1 in
@@ -94,6 +95,17 @@ name_laws = record {
       rw (home_by_word x n, home_by_word y n)
       (share_rises 1048576 (x.high / 1152921504606846976) (y.high / 1152921504606846976) n (omega arith) (omega arith));
 }
+
+-- the comparison as a total order, and the equality that it gives
+pub name_total : IsTotalOrder name_order
+name_total = record {
+  antisymm = λ x y. name_laws.exchange y x;
+  trans = name_laws.onward;
+  congr = λ x y z e. ap (λ (v : Name). name_order v z) (name_laws.equal x y e);
+}
+
+pub name_equivalence : IsEquivalence (eq_by_cmp name_order)
+name_equivalence = eq_by_cmp_equiv name_total
 
 -- equal names are the same, and no others
 is_equal : (o : Ordering) → is_eq o ≡ true → o ≡ Equal

@@ -22,8 +22,8 @@ const DIGITS: [u16; 192] = [
 // The digit of the i-th code point from 00C0 on.
 fn table_digit(i: usize) -> u16
     requires { i < 192 }
-    ensures* value { do ⌜ result ≡ slice_index (← (⟦DIGITS⟧).entry) i ⌝ }
-    ensures* rule { do ⌜ TableRule (← (⟦DIGITS⟧).entry) ⌝ }
+    ensures value { result ≡ slice_index DIGITS i }
+    ensures rule { TableRule DIGITS }
 {
     DIGITS[i]
 }

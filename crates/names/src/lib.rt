@@ -8,11 +8,8 @@ ghost use Rattle.names.specs.Reading.{refusal_number, stepped, word_at, packed, 
 ghost use Rattle.names.specs.Digits.{name_order, name_home, by_words, first_two};
 ghost use Rattle.names.specs.Law.{NameLaw};
 ghost use Rattle.names.specs.Progress.{Holds, Ready, Follows, refused_by};
-ghost use Rattle.names.specs.KeyLaws.{name_laws};
-ghost use Rattle.std.specs.Cmp.Rules.{comparing};
-ghost use Rattle.std.proofs.Common.{rules};
-ghost use Rattle.std.specs.Cmp as Keys;
-ghost use Rattle.std.specs.Cmp.{partial_order_from_agreeing_total};
+ghost use Rattle.names.specs.KeyLaws.{name_laws, name_total, name_equivalence};
+ghost use Rattle.std.specs.Cmp.{partial_equiv_from_equiv, po};
 
 use keys::Key;
 use std::cmp::Ordering;
@@ -103,7 +100,7 @@ impl Key for Name {
 impl PartialEq for Name {
     ghost eq = { λ x y. is_eq (name_order x y) };
 
-    ghost laws = { Keys.partial_equiv_from_equiv (Prim.search (comparing, rules)) };
+    ghost laws = { partial_equiv_from_equiv name_equivalence };
 
     fn eq(&self, other: &Name) -> bool {
         self.compare(*other).is_eq()
@@ -111,13 +108,13 @@ impl PartialEq for Name {
 }
 
 impl Eq for Name {
-    ghost laws = { Prim.search (comparing, rules) };
+    ghost laws = { name_equivalence };
 }
 
 impl PartialOrd for Name {
     ghost partial_cmp = { λ x y. Some (name_order x y) };
 
-    ghost laws = { partial_order_from_agreeing_total (λ x y. name_order x y) (Prim.search (comparing, rules)) (λ _ _. refl) (Prim.search (comparing, rules)) };
+    ghost laws = { po name_total (λ x y. refl) };
 
     fn partial_cmp(&self, other: &Name) -> Option<Ordering> {
         Some(self.compare(*other))
@@ -125,13 +122,13 @@ impl PartialOrd for Name {
 }
 
 impl Ord for Name {
-    ghost cmp = { λ x y. name_order x y };
+    ghost cmp = { name_order };
 
-    ghost total = { Prim.search (comparing, rules) };
+    ghost total = { name_total };
 
-    ghost matches_partial_cmp = { Prim.search (comparing, rules) };
+    ghost matches_partial_cmp = { λ x y. refl };
 
-    ghost matches_eq = { Prim.search (comparing, rules) };
+    ghost matches_eq = { λ x y. refl };
 
     fn cmp(&self, other: &Name) -> Ordering {
         <Name as Key>::compare(*self, *other)

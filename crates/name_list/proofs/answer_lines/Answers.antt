@@ -11,14 +11,14 @@ loop-rest-init c =
     going_starts c.args.bytes.now (vec_items c.new-answers.result) c.new-first.result c.new-answers.ensures.items none.0 none.1
 
 pub loop-rest-smaller : goal.loop-rest-smaller
-loop-rest-smaller c = shorter c.loop-rest.rest.now c.first-line.result.1.now c.first-line.ensures.rest c.loop-rest-test.true
+loop-rest-smaller c = shorter c.loop-rest.rest.now c.first_line.result.1.now c.first_line.ensures.rest c.loop-rest-test.true
 
 pub loop-rest-preserved : goal.loop-rest-preserved
 loop-rest-preserved c =
-    going_on c.args.bytes.now c.loop-rest.rest.now c.first-line.result.0.now c.first-line.result.1.now
-    (vec_items c.loop-rest.answers) (vec_items c.push.new.self) c.loop-rest.first c.note.new.first _ c.in-ok-answer.answer
+    going_on c.args.bytes.now c.loop-rest.rest.now c.first_line.result.0.now c.first_line.result.1.now
+    (vec_items c.loop-rest.answers) (vec_items c.push.new.self) c.loop-rest.first c.note.new.first _ c.in_ok-answer.answer
     c.loop-rest.invariant c.loop-rest-test.true (omega (arith, c.loop-rest.answers.ok.0)) (omega (arith, c.loop-rest.answers.ok.0))
-    c.first-line.ensures.line c.first-line.ensures.rest c.in-ok-push.ensures.items c.in-ok-answer.ensures
+    c.first_line.ensures.line c.first_line.ensures.rest c.in_ok-push.ensures.items c.in_ok-answer.ensures
 
 pub returns : goal.returns
 returns c = elim c.loop-rest-test.branch [

@@ -12,5 +12,5 @@ returns-in-Some c =
 pub returns : goal.returns
 returns c =
     noted_new c.args.first.now c.insert.new.self c.args.n _ c.in-Ok.name (sym c.in-Ok.ensures.value) c.requires
-    (c.in-default.ensures.finds c.in-Ok.name refl names_total c.requires)
-    (btree-map-updates names_total c.args.first.now c.insert.new.self c.in-Ok.name (Some c.args.n) c.in-ok-insert.ensures.inserted.3 c.requires)
+    (c.in_default.ensures.finds c.in-Ok.name refl names_total c.requires)
+    (btree-map-updates names_total c.args.first.now c.insert.new.self c.in-Ok.name (Some c.args.n) c.in_ok-insert.ensures.inserted.3 c.requires)

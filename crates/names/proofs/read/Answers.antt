@@ -9,31 +9,31 @@ pub loop-rest-init : goal.loop-rest-init
 loop-rest-init c = going_starts c.args.bytes.now
 
 pub loop-rest-smaller : goal.loop-rest-smaller
-loop-rest-smaller c = shorter c.loop-rest.rest.now c.in-ok-c.tail.now c.in-ok-c.c c.in-ok-c.ensures
+loop-rest-smaller c = shorter c.loop-rest.rest.now c.in_ok-c.tail.now c.in_ok-c.c c.in_ok-c.ensures
 
 pub loop-rest-preserved : goal.loop-rest-preserved
 loop-rest-preserved c =
-    going_on c.args.bytes.now c.loop-rest.rest.now c.in-ok-c.tail.now c.loop-rest.row c.in-ok-row.row c.in-ok-c.c
-    c.loop-rest.invariant c.in-ok-c.ensures c.in-ok-row.ensures
+    going_on c.args.bytes.now c.loop-rest.rest.now c.in_ok-c.tail.now c.loop-rest.row c.in_ok-row.row c.in_ok-c.c
+    c.loop-rest.invariant c.in_ok-c.ensures c.in_ok-row.ensures
 
-pub returns-in-err-c : goal.returns-in-err-c
-returns-in-err-c c =
-    let p = err_from_is_err_and c.from-residual.result c.from-residual.ensures.1 in
+pub returns-in_err-c : goal.returns-in_err-c
+returns-in_err-c c =
+    let p = err_from_is_err_and c.from_residual.result c.from_residual.ensures.1 in
     record {
       value =
-          p.1 ∙ ap Err (p.2 ∙ c.in-err-c.ensures.1)
-          ∙ ill_formed c.args.bytes.now c.loop-rest.rest.now c.loop-rest.row c.loop-rest.invariant c.in-err-c.ensures.0 (omega arith);
+          p.1 ∙ ap Err (p.2 ∙ c.in_err-c.ensures.1)
+          ∙ ill_formed c.args.bytes.now c.loop-rest.rest.now c.loop-rest.row c.loop-rest.invariant c.in_err-c.ensures.0 (omega arith);
       law = name_law;
     }
 
-pub returns-in-err-row : goal.returns-in-err-row
-returns-in-err-row c =
-    let p = err_from_is_err_and c.from-residual-in-err-row.result c.from-residual-in-err-row.ensures.1 in
+pub returns-in_err-row : goal.returns-in_err-row
+returns-in_err-row c =
+    let p = err_from_is_err_and c.from_residual-in_err-row.result c.from_residual-in_err-row.ensures.1 in
     record {
       value =
           p.1 ∙ ap Err p.2
-          ∙ faulty c.args.bytes.now c.loop-rest.rest.now c.in-ok-c.tail.now c.loop-rest.row c.in-ok-c.c _
-          c.loop-rest.invariant c.in-ok-c.ensures c.in-err-row.ensures;
+          ∙ faulty c.args.bytes.now c.loop-rest.rest.now c.in_ok-c.tail.now c.loop-rest.row c.in_ok-c.c _
+          c.loop-rest.invariant c.in_ok-c.ensures c.in_err-row.ensures;
       law = name_law;
     }
 

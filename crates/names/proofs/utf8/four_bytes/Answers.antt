@@ -2,5 +2,5 @@ use Rattle.std.proofs.Common.{arith, rules}
 use Rattle.names.proofs.Points.{rest_is}
 use Rattle.names.proofs.utf8.four_bytes.Goals as goal
 
-pub returns-then-fit-four : goal.returns-then-fit-four
-returns-then-fit-four c = rw (rest_is 3 c.args.bytes.now) (search rules)
+pub returns-then-fit_four : goal.returns-then-fit_four
+returns-then-fit_four c = rw (rest_is 3 c.args.bytes.now) (search rules)
