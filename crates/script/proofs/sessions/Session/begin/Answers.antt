@@ -8,16 +8,15 @@ lay-requires c = record {
   empty = begun_empty _ _ c.args.self.now.slips c.args.self.now.held c.args.station c.args.tray c.in-Ok.slip c.in-Ok.ensures;
 }
 
-pub invariant-of-self : goal.invariant-of-self
-invariant-of-self c = (
-  as_many c.args.self.now.slips c.lay.new.slips c.args.station 4 _ c.lay.ensures c.args.self.now.four,
-  (
-    held_begun _ _ c.args.self.now.slips c.args.self.now.held c.args.station c.args.tray c.in-Ok.slip c.lay.new.slips
-        c.in-Ok.ensures c.lay.ensures,
-    tt,
-  ),
-)
+pub invariant_of-self : goal.invariant_of-self
+invariant_of-self c = record {
+  four = as_many c.args.self.now.slips c.lay.new.slips c.args.station 4 _ c.lay.ensures c.args.self.now.four;
+  held = held_begun _ _ c.args.self.now.slips c.args.self.now.held c.args.station c.args.tray c.in-Ok.slip c.lay.new.slips
+      c.in-Ok.ensures c.lay.ensures;
+}
 
-pub invariant-of-self-in-Err· : goal.invariant-of-self-in-Err·
-invariant-of-self-in-Err· c =
-    (c.args.self.now.four, (held_not_begun _ _ c.args.self.now.slips c.args.self.now.held c.args.station c.args.tray c.in-Err.refusal c.in-Err.ensures, tt))
+pub invariant_of-self-in-Err-1 : goal.invariant_of-self-in-Err-1
+invariant_of-self-in-Err-1 c = record {
+  four = c.args.self.now.four;
+  held = held_not_begun _ _ c.args.self.now.slips c.args.self.now.held c.args.station c.args.tray c.in-Err.refusal c.in-Err.ensures;
+}
