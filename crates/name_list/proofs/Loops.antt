@@ -5,9 +5,8 @@ use Rattle.names.specs.declared.Fault.{Fault}
 use Rattle.names.specs.declared.Name.{Name}
 use Rattle.names.specs.Reading.{reading}
 use Rattle.name_list.specs.declared.Answer.{Answer}
-use Rattle.name_list.specs.declared.Answer.TheVariants.{New, Same, Refused}
-use Rattle.name_list.specs.Lists.{end_at, first_line, after_line, lines, unread, read_as, line_of, new_or_same, answer_by, answer_to, answers_after, answers_to}
-use Rattle.name_list.specs.Seen.{Lawful, line_in, first_or, line_if, Noted}
+use Rattle.name_list.specs.Lists.{first_line, after_line, lines, unread, read_as, line_of, new_or_same, answer_by, answer_to, answers_after, answers_to}
+use Rattle.name_list.specs.Seen.{Lawful, line_in, line_if, Noted}
 
 -- one more line at the end: where a name first came, and the answers
 line_push_by : (x : Name) (k n : ℕ) (r : Result Name Fault) (b : Bool) (o o' : Option ℕ) → o' ≡ line_if o n r x → cond b (Some k) o' ≡ line_if (cond b (Some k) o) n r x

@@ -1,16 +1,15 @@
 -- The map from each name to the line where it first came, as one more line changes it.
-use Rattle.std.proofs.Common.{◌≡◌, ℕ, ◌+◌, Bool, true, false, cond, Some, None, Ok, Err, Option, Result, sym, refl, ap, ◌∙◌, subst, arith}
-use Rattle.std.proofs.lemmas.Map.Contents.{BTreeMapAfterUpdate, btree-map-updates}
-use Rattle.std.specs.BTreeMap.{IsOrdered, get, Updates}
-use Rattle.std.specs.Ordering.{eq_by_cmp, is_eq}
+use Rattle.std.proofs.Common.{◌≡◌, ℕ, Bool, true, false, cond, Some, None, Ok, Option, Result, sym, refl, ap, ◌∙◌, arith}
+use Rattle.std.specs.BTreeMap.{Updates}
+use Rattle.std.specs.Ordering.{is_eq}
 use Rattle.std.specs.BTreeMap.{BTreeMap}
 use Rattle.names.specs.KeyLaws.{equality_decides}
 use Rattle.names.specs.declared.Fault.{Fault}
 use Rattle.names.specs.declared.Name.{Name}
 use Rattle.names.specs.Digits.{name_order}
-use Rattle.name_list.specs.declared.Answer.TheVariants.{New, Same, Refused}
-use Rattle.name_list.specs.Lists.{read_as, answer_by, new_or_same}
-use Rattle.name_list.specs.Seen.{name_orders, names_total, Lawful, line_in, first_or, line_if, Noted}
+use Rattle.name_list.specs.declared.Answer.TheVariants.{New, Same}
+use Rattle.name_list.specs.Lists.{answer_by, new_or_same}
+use Rattle.name_list.specs.Seen.{Lawful, line_in, first_or, line_if, Noted}
 
 equal_names : (x y : Name) → is_eq (name_order x y) ≡ true → x ≡ y
 equal_names x y = (equality_decides x y (is_eq (name_order x y)) refl).0
@@ -39,19 +38,13 @@ placed n x y true o o' e h k = let f = h (equal_names x y e) in f.1 ∙ ap (λ (
 placed n x y false None o' e h k = k refl
 placed n x y false (Some l) o' e h k = k refl
 
-flipped : (x y : Name) → is_eq (name_order x y) ≡ false → is_eq (name_order y x) ≡ false
-flipped x y e = by (is_eq (name_order y x)) refl where
-  by : (b : Bool) → is_eq (name_order y x) ≡ b → b ≡ false
-  by false q = refl
-  by true q = sym (same_test x y (sym (equal_names y x q))) ∙ e
-
-pub noted_new : (m m' : BTreeMap Name ℕ) (n : ℕ) (r : Result Name Fault) (x : Name) → r ≡ Ok x → Lawful m → None ≡ line_in m x → BTreeMapAfterUpdate names_total m m' x (Some n) → Noted m n r New m'
-noted_new m m' n r x e w f p = record {
+pub noted_new : (m m' : BTreeMap Name ℕ) (n : ℕ) (r : Result Name Fault) (x : Name) → r ≡ Ok x → Lawful m → None ≡ line_in m x → Updates name_order m m' x (Some n) → Lawful m' → Noted m n r New m'
+noted_new m m' n r x e w f p w' = record {
   answers = ap new_or_same f ∙ ap (answer_by (line_in m)) (sym e);
-  lawful = p.lawful;
+  lawful = w';
   finds = λ y.
       placed n x y (is_eq (name_order x y)) (line_in m y) (line_in m' y) refl
-      (λ q. (ap (line_in m) (sym q) ∙ sym f, ap (line_in m') (sym q) ∙ p.here))
-      (λ q. p.other y (flipped x y q))
+      (λ q. (ap (line_in m) (sym q) ∙ sym f, ap (line_in m') (sym q) ∙ p.1))
+      (λ q. p.2 y q)
       ∙ ap (λ (v : Result Name Fault). line_if (line_in m y) n v y) (sym e);
 }

@@ -1,36 +1,25 @@
 -- The map from each name to the line where it first came, as the reader of a list keeps it: the contracts of its inner functions.
 use Rattle.std.specs.Prelude.{◌≡◌, ℕ, cond, Some, None, Option, Result}
-use Rattle.std.specs.declared.cmp.Ordering.{Ordering}
-use Rattle.std.proofs.Common.{ap}
 use Rattle.std.specs.BTreeMap.{IsOrdered, get}
 use Rattle.std.specs.Cmp.{IsTotalOrder}
 use Rattle.std.specs.BTreeMap.{BTreeMap}
-use Rattle.names.specs.KeyLaws.{name_laws}
+use Rattle.names.specs.KeyLaws.{name_total}
 use Rattle.names.specs.declared.Fault.{Fault}
 use Rattle.names.specs.declared.Name.{Name}
 use Rattle.names.specs.Digits.{name_order}
 use Rattle.name_list.specs.declared.Answer.{Answer}
 use Rattle.name_list.specs.Lists.{read_as, answer_by}
 
--- what `cmp` answers of two names, and that this is a total order
-abbrev pub name_orders : Name → Name → Ordering → Type 0
-name_orders x y r = r ≡ name_order x y
-
-abbrev pub names_total : IsTotalOrder name_orders
-names_total = record {
-  cmp = name_order;
-  says = λ x y r e. e;
-  flip = λ x y. name_laws.exchange y x;
-  trans = name_laws.onward;
-  alike = λ x y z e. ap (λ (v : Name). name_order v z) (name_laws.equal x y e);
-}
+-- the comparison of names is a total order
+abbrev pub names_total : IsTotalOrder name_order
+names_total = name_total
 
 -- a map whose keys are in order, and the line that it has for a name
 abbrev pub Lawful : BTreeMap Name ℕ → Type 0
-Lawful m = IsOrdered names_total m
+Lawful m = IsOrdered name_order m
 
 abbrev pub line_in : BTreeMap Name ℕ → Name → Option ℕ
-line_in m x = get names_total m x
+line_in m x = get name_order m x
 
 -- the first line of a name, after the n-th line was read as r
 abbrev pub first_or : Option ℕ → Option ℕ → Option ℕ

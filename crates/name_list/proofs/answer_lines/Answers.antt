@@ -1,14 +1,15 @@
-use Rattle.std.proofs.Common.{vec_items, arith}
-use Rattle.std.proofs.lemmas.Map.Contents.{btree-map-empty}
-use Rattle.name_list.specs.Seen.{names_total}
+use Rattle.std.proofs.Common.{vec_items, ap, arith}
+use Rattle.std.specs.BTreeMap.{is_at}
+use Rattle.std.specs.Map.{lookup}
+use Rattle.names.specs.Digits.{name_order}
 use Rattle.name_list.proofs.Loops.{going_starts, going_on, shorter, finished_at_end, finished_full}
 use Rattle.name_list.proofs.answer_lines.Goals as goal
-use Rattle.name_list.proofs.answer_lines.Goals.{then-loop-rest-test+else-len-lt-MOST-LINES, else-loop-rest-test}
+use Rattle.name_list.proofs.answer_lines.Goals.{then-loop-rest-test+else-len-lt-MOST_LINES, else-loop-rest-test}
 
 pub loop-rest-init : goal.loop-rest-init
 loop-rest-init c =
-    let none = btree-map-empty names_total c.new-first.result c.new-first.ensures.keys c.new-first.ensures.vals in
-    going_starts c.args.bytes.now (vec_items c.new-answers.result) c.new-first.result c.new-answers.ensures.items none.0 none.1
+    going_starts c.args.bytes.now (vec_items c.new-answers.result) c.new-first.result c.new-answers.ensures.items c.new-first.ensures.ordered
+    (λ x. ap (lookup (is_at (name_order x))) c.new-first.ensures.empty)
 
 pub loop-rest-smaller : goal.loop-rest-smaller
 loop-rest-smaller c = shorter c.loop-rest.rest.now c.first_line.result.1.now c.first_line.ensures.rest c.loop-rest-test.true
@@ -22,9 +23,9 @@ loop-rest-preserved c =
 
 pub returns : goal.returns
 returns c = elim c.loop-rest-test.branch [
-  | then-loop-rest-test+else-len-lt-MOST-LINES w ↦
+  | then-loop-rest-test+else-len-lt-MOST_LINES w ↦
       finished_full c.args.bytes.now c.loop-rest.rest.now (vec_items c.loop-rest.answers) c.loop-rest.first c.loop-rest.invariant
-      (omega (arith, c.loop-rest.answers.ok.0, w.if-len-lt-MOST-LINES.false, w.len.ensures))
+      (omega (arith, c.loop-rest.answers.ok.0, w.if-len-lt-MOST_LINES.false, w.len.ensures))
   | else-loop-rest-test w ↦
       finished_at_end c.args.bytes.now c.loop-rest.rest.now (vec_items c.loop-rest.answers) c.loop-rest.first c.loop-rest.invariant
       (omega (arith, w.loop-rest-test.false))

@@ -1,4 +1,4 @@
-use Rattle.std.proofs.Common.{◌<◌, ◌≤◌, length, sym, arith}
+use Rattle.std.proofs.Common.{sym, arith}
 use Rattle.name_list.proofs.Ends.{end_here, end_last}
 use Rattle.name_list.proofs.end_at.Goals as goal
 
