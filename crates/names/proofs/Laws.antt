@@ -10,7 +10,7 @@ use Rattle.names.specs.Digits.{digits_of}
 use Rattle.names.specs.Law.{points_of, code_points, utf8, Scalars, padded, NameLaw}
 use Rattle.names.proofs.Points.{shorter}
 use Rattle.names.proofs.Encodings.{there, back}
-use Rattle.names.proofs.Spellings.{went, no_run, unplaced, read_decomposed, list_in, spelled, Running, running}
+use Rattle.names.proofs.Spellings.{went, no_run, unplaced, read_decomposed, list_in, spelled, running}
 use Rattle.names.proofs.Packing.{key_digits, key_same}
 
 -- a text that is read, and its letters

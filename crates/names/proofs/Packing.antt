@@ -1,7 +1,6 @@
 -- The digits of a key are those that were packed into it, so letters and keys tell each other.
 use Rattle.std.proofs.Common.{◌≡◌, ℕ, zero, suc, ◌+◌, ◌*◌, ◌%◌, ◌<◌, ◌≤◌, List, [], ◌∷◌, map, length, get_or, sym, refl, ap, ◌∙◌, le_of_suc-le-suc, arith}
 use lib.Arith.{digits_div, digits_mod}
-use Rattle.names.specs.declared.Name.{Name}
 use Rattle.names.specs.Letters.{Letter, digit}
 use Rattle.names.specs.Reading.{word_at, packed, key_of}
 use Rattle.names.specs.Digits.{digits_of_word, digits_of}

@@ -1,17 +1,15 @@
 -- One more code point: what the reader's row then holds.
-use Rattle.std.proofs.Common.{◌≡◌, ℕ, zero, suc, ◌+◌, ◌-◌, ◌*◌, ◌%◌, ◌<◌, ◌≤◌, Bool, true, false, cond, ◌&&◌, eqb, ltb, leb, List, [], ◌∷◌, length, get_or, set, replicate, Some, None, Ok, Err, Option, Result, sym, refl, ap, ◌∙◌, subst, add-one, arith, length-set, get_or-set_same, set-set}
-use lib.ListN.{length-replicate}
+use Rattle.std.proofs.Common.{◌≡◌, ℕ, ◌+◌, ◌-◌, ◌<◌, ◌≤◌, Bool, true, false, cond, eqb, ltb, List, [], ◌∷◌, length, get_or, set, Some, None, Ok, Err, Option, Result, sym, refl, ap, ◌∙◌, subst, add-one, arith, length-set, get_or-set_same, set-set}
 use Rattle.std.proofs.lemmas.Bool.Decides.{nat_tests}
 use Rattle.names.specs.declared.Fault.{Fault}
 use Rattle.names.specs.declared.Row.{Row}
 use Rattle.names.specs.declared.Reason.{Reason}
-use Rattle.names.specs.declared.Reason.TheVariants.{IllFormed, NotListed, LooseMark, Length}
-use Rattle.names.specs.Utf8.{inside}
+use Rattle.names.specs.declared.Reason.TheVariants.{NotListed, LooseMark, Length}
 use Rattle.names.specs.Decomposition.{canonical}
-use Rattle.names.specs.Letters.{Letter, mark_number, plain_number, letter_number, letter_by, letter_of, digit, digit_by, bare}
+use Rattle.names.specs.Letters.{Letter, mark_number, letter_number, letter_by, letter_of, digit, digit_by, bare}
 use Rattle.names.specs.Reading.{fault, marked, lettered, stepped}
-use Rattle.names.specs.Progress.{bare_digit, laid, takes_mark, Holds, Ready, Follows, refused_by}
-use Rattle.names.proofs.Tables.{Sound, table_facts, mark_most, number_most}
+use Rattle.names.specs.Progress.{bare_digit, laid, Holds, Ready, Follows, refused_by}
+use Rattle.names.proofs.Tables.{table_facts, mark_most, number_most}
 
 pub laid_length : (xs : List Letter) → length (laid xs) ≡ 24
 unfolding laid

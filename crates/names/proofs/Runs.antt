@@ -1,18 +1,17 @@
 -- The reader's turns.
-use Rattle.std.proofs.Common.{◌≡◌, ℕ, zero, suc, ◌+◌, ◌-◌, ◌*◌, ◌%◌, ◌<◌, ◌≤◌, Bool, true, false, cond, ◌&&◌, eqb, ltb, leb, ◌⊎◌, List, [], ◌∷◌, ◌++◌, map, reverse, length, get_or, set, replicate, Some, None, Ok, Err, Option, Result, sym, refl, ap, ◌∙◌, subst, inl, inr, arith, length-append, get_or-set_other, get_or-set_same}
+use Rattle.std.proofs.Common.{◌≡◌, ℕ, zero, suc, ◌+◌, ◌-◌, ◌<◌, ◌≤◌, true, false, eqb, ◌⊎◌, List, [], ◌∷◌, ◌++◌, map, reverse, length, get_or, set, replicate, Some, None, Ok, Err, Result, sym, refl, ap, ◌∙◌, inl, inr, arith, get_or-set_other, get_or-set_same}
 use mathlib.Core.Path.{fun_ext}
 use mathlib.Core.List.{reverse-cons}
 use lib.ListN.{length-reverse, length-map}
 use Rattle.std.proofs.lemmas.List.{get_or_push, map-append}
-use Rattle.std.proofs.lemmas.Bool.Decides.{nat_tests, eqb_tells}
+use Rattle.std.proofs.lemmas.Bool.Decides.{eqb_tells}
 use Rattle.names.specs.declared.Fault.{Fault}
-use Rattle.names.specs.declared.Name.{Name}
 use Rattle.names.specs.declared.Row.{Row}
-use Rattle.names.specs.declared.Reason.TheVariants.{IllFormed, NotListed, LooseMark, Length}
+use Rattle.names.specs.declared.Reason.TheVariants.{IllFormed, Length}
 use Rattle.names.specs.Utf8.{first}
 use Rattle.names.specs.Letters.{Letter, digit}
-use Rattle.names.specs.Reading.{fault, Text, Done, Broken, Point, point_then, text_in, text_of, stepped, and_then, letters, packed, key_of, named, reading}
-use Rattle.names.specs.Progress.{laid, takes_mark, Holds, Ready, Follows}
+use Rattle.names.specs.Reading.{fault, Done, Broken, Point, point_then, text_in, text_of, stepped, and_then, letters, packed, key_of, named, reading}
+use Rattle.names.specs.Progress.{laid, Holds, Follows}
 use Rattle.names.proofs.Points.{shorter}
 use Rattle.names.proofs.Rows.{laid_length}
 

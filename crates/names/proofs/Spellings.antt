@@ -1,17 +1,16 @@
 -- The letters of a text that is read spell its canonical decomposition, and the decomposition is read as the text is.
-use Rattle.std.proofs.Common.{◌≡◌, ℕ, zero, suc, ◌+◌, ◌-◌, ◌*◌, ◌<◌, ◌≤◌, Bool, true, false, cond, ◌&&◌, ◌||◌, eqb, ltb, leb, ◌⊎◌, List, [], ◌∷◌, map, reverse, length, get_or, Some, None, Ok, Err, Option, Result, sym, refl, ap, ◌∙◌, subst, inl, inr, le_of_suc-le-suc, not-suc-le-zero, arith}
+use Rattle.std.proofs.Common.{◌≡◌, ℕ, zero, suc, ◌+◌, ◌-◌, ◌<◌, ◌≤◌, Bool, true, false, cond, ◌&&◌, ◌||◌, eqb, ltb, leb, ◌⊎◌, List, [], ◌∷◌, reverse, length, get_or, Some, None, Ok, Err, Option, Result, sym, refl, ap, ◌∙◌, subst, inl, inr, not-suc-le-zero, arith}
 use mathlib.Core.List.{reverse_aux}
 use lib.ListN.{length-reverse}
 use Rattle.std.proofs.lemmas.Bool.Decides.{nat_tests, leb_tells, eqb_tells}
 use Rattle.names.specs.declared.Fault.{Fault}
-use Rattle.names.specs.declared.Name.{Name}
 use Rattle.names.specs.declared.Reason.TheVariants.{IllFormed, NotListed, LooseMark, Length}
 use Rattle.names.specs.Utf8.{inside}
 use Rattle.names.specs.Decomposition.{canonical, decomposed_to, decomposition}
 use Rattle.names.specs.Letters.{Letter, place_in, marks, mark_number, singles, plain_number, letter_number, letter_by, letter_of, bare}
 use Rattle.names.specs.Reading.{fault, Text, Done, Broken, Point, marked, lettered, stepped, and_then, letters}
 use Rattle.names.specs.Law.{points_of}
-use Rattle.names.proofs.Tables.{Sound, and_right, table_facts, mark_most, mark_least, canonical_outside, number_outside}
+use Rattle.names.proofs.Tables.{and_right, table_facts, mark_most, mark_least, canonical_outside, number_outside}
 use Rattle.names.proofs.Rows.{Good, letter_good, by_mark, by_letter}
 
 -- a run of letters that ends well goes well at its first code point

@@ -1,9 +1,9 @@
 -- The rule of the table of digits, by computed tests of the whole table, and what the canonical mappings keep to.
-use Rattle.std.proofs.Common.{◌≡◌, ℕ, zero, suc, ◌+◌, ◌-◌, ◌*◌, ◌<◌, ◌≤◌, Bool, true, false, cond, not, ◌&&◌, ◌||◌, eqb, ltb, leb, List, [], ◌∷◌, length, get_or, Some, None, Option, sym, refl, ap, ◌∙◌, subst, le_of_suc-le-suc, not-suc-le-zero, arith}
+use Rattle.std.proofs.Common.{◌≡◌, ℕ, zero, suc, ◌+◌, ◌-◌, ◌*◌, ◌<◌, ◌≤◌, Bool, true, false, cond, not, ◌&&◌, ◌||◌, eqb, ltb, List, [], ◌∷◌, length, get_or, Some, None, Option, sym, refl, ap, ◌∙◌, le_of_suc-le-suc, not-suc-le-zero, arith}
 use Rattle.std.proofs.lemmas.Bool.Decides.{nat_tests}
 use Rattle.names.specs.Utf8.{inside}
 use Rattle.names.specs.Decomposition.{mappings, lookup, canonical}
-use Rattle.names.specs.Letters.{Letter, place_in, marks, mark_number, singles, plain_number, letter_number, letter_by, letter_of, digit, digit_by, TableRule}
+use Rattle.names.specs.Letters.{place_in, marks, mark_number, singles, plain_number, letter_number, letter_by, letter_of, digit_by, TableRule}
 
 -- x stands nowhere in the list
 abbrev pub absent : ℕ → List ℕ → Bool

@@ -1,5 +1,5 @@
 -- UTF-8, as the Unicode Standard defines it: the bytes of a code point, and the code point that some bytes begin with.
-use Rattle.std.specs.Prelude.{ℕ, ◌+◌, ◌-◌, ◌*◌, ◌/◌, ◌%◌, ◌<◌, ◌≤◌, Bool, cond, ◌&&◌, ◌||◌, ◌⊎◌, List, [], ◌∷◌, length, drop, Some, None, Option, ◌==◌, nat_le, slice_index}
+use Rattle.std.specs.Prelude.{ℕ, ◌+◌, ◌-◌, ◌*◌, ◌/◌, ◌%◌, ◌<◌, ◌≤◌, Bool, cond, ◌&&◌, ◌||◌, ◌⊎◌, List, ◌∷◌, length, drop, Some, None, Option, ◌==◌, nat_le, slice_index}
 
 -- from low to high, both included
 abbrev pub inside : ℕ → ℕ → ℕ → Bool

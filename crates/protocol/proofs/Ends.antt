@@ -9,7 +9,6 @@ use Rattle.protocol.specs.Calls.{decision, ends_by, alone}
 use Rattle.protocol.specs.Safety.{EndedStage}
 use Rattle.protocol.proofs.Lawful.{Lawful, versus_occupied}
 use Rattle.protocol.proofs.Updates.{holds_occupied}
-use Rattle.protocol.proofs.Sorted.{inside}
 use Rattle.protocol.proofs.Standings.{Means, stage_is}
 use Rattle.protocol.proofs.Places.{length_after, contents_inside}
 

@@ -6,7 +6,6 @@ use Rattle.protocol.specs.Stages.{Direction, Leftward, Rightward, Stage, Idle, H
 use Rattle.protocol.specs.Step.{before, same, after, Walk, Here, Ended, Onward, Versus, none, is, is_after, walk_at, beside, copy_due, gap_after, at_home, at_look, at_left, at_right, at_first, give_up, at_second, absent, at_check, copied, release, versus, at_shift, decide}
 use Rattle.protocol.proofs.Lawful.{Lawful, versus_occupied}
 use Rattle.protocol.proofs.Updates.{holds_occupied}
-use Rattle.protocol.proofs.Sorted.{inside}
 use Rattle.protocol.proofs.Holding.{cell_parts}
 
 module _ (N : ℕ) where

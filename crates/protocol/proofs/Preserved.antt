@@ -3,9 +3,9 @@ use Rattle.std.proofs.Common.{◌≡◌, ℕ, Bool, true, false, cond, eqb, ◌�
 use mathlib.Core.Path.{fun_ext}
 use Rattle.std.proofs.lemmas.Bool.{cases_eq, both_ways, eq-eqb, ne_eqb, eqb-true, cond-true, cond-false}
 use Rattle.protocol.specs.declared.Station.{Station}
-use Rattle.protocol.specs.Cells.{Content, holds, updated, marks}
+use Rattle.protocol.specs.Cells.{Content, holds, updated}
 use Rattle.protocol.specs.Stages.{Answer, Leftward, Rightward, Stage, Idle, Home, Look, Left, Right, FirstMark, SecondMark, GiveBack, Check, Shift, ReleaseLeft, ReleaseRight, Answered, Standing, resting, homing, under_way, done, standing, busy, settled_by, settled, held_by, holds_mark}
-use Rattle.protocol.specs.Step.{Effect, nothing, took, Decision, none, decide}
+use Rattle.protocol.specs.Step.{Effect, nothing, took, Decision, decide}
 use Rattle.protocol.specs.Calls.{fresh, idled, leaving, stepped_record}
 use Rattle.protocol.specs.Turns.{noted, watched}
 use Rattle.protocol.specs.OneWorker.{one_worker, table, Alike}

@@ -12,7 +12,6 @@ use Rattle.protocol.specs.Calls.{Ok, Err, Refusal, WrongSize, OtherRegister, NoE
 use Rattle.protocol.specs.Turns.{Turn, begin, step, collect, withdraw, enter, turned_over, turned, Log, no_log, log_at, logged_over, logged, after_turns}
 use Rattle.protocol.specs.OneWorker.{table, Alike}
 use Rattle.protocol.specs.Safety.{NewOnce, Promise, SafeFrom, Safe}
-use Rattle.protocol.specs.Examples.{answers}
 use Rattle.protocol.proofs.Lawful.{Lawful, lawful, order_refl}
 use Rattle.protocol.proofs.Standings.{Means, stage_is}
 use Rattle.protocol.proofs.Holding.{holder, holder_busy}

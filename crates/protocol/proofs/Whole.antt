@@ -8,7 +8,6 @@ use Rattle.protocol.specs.Stages.{Stage, Idle, Home, Answered, Standing, resting
 use Rattle.protocol.specs.Step.{Effect, Decision}
 use Rattle.protocol.specs.Calls.{WrongSize, World, bad_size, bad_count, idled, decision, ends_by, alone, enough, whole_answer, whole_entry}
 use Rattle.protocol.specs.Turns.{enter, Log, noted, watched, log_enter}
-use Rattle.protocol.specs.Examples.{answers}
 use Rattle.protocol.proofs.Lawful.{Lawful}
 use Rattle.protocol.proofs.Updates.{updated_same, updated_at, updated_other}
 use Rattle.protocol.proofs.Standings.{Means, stage_is}

@@ -1,5 +1,5 @@
 -- Every slip in hand can be spent: each order keeps that so.
-use Rattle.std.proofs.Common.{◌≡◌, ℕ, zero, suc, ◌+◌, ◌<◌, ◌≤◌, Bool, true, false, ◌&&◌, eqb, ◌≢◌, ◌⊎◌, List, [], ◌∷◌, length, get_or, set, Some, None, Ok, Err, Option, Result, sym, refl, ap, ◌∙◌, subst, inl, inr, arith, length-set, get_or-set_other, set-set}
+use Rattle.std.proofs.Common.{◌≡◌, ℕ, zero, suc, ◌+◌, ◌<◌, Bool, true, false, ◌&&◌, eqb, ◌≢◌, ◌⊎◌, List, [], ◌∷◌, length, get_or, set, Some, None, Ok, Err, Option, Result, sym, refl, ap, ◌∙◌, subst, inl, inr, arith, length-set, get_or-set_other, set-set}
 use lib.Seq.{set-get_or}
 use Rattle.std.proofs.lemmas.Bool.Decides.{nat_tests}
 use Rattle.std.proofs.lemmas.Bool.{cases_eq}
@@ -10,11 +10,11 @@ use Rattle.protocol.specs.declared.Departure.{Departure}
 use Rattle.protocol.specs.declared.Progress.{Progress}
 use Rattle.protocol.specs.declared.Refusal.{Refusal}
 use Rattle.protocol.specs.Step.{kind_over}
-use Rattle.protocol.specs.Calls.{World, Out, SlipNumbers, stepping}
+use Rattle.protocol.specs.Calls.{World, Out, SlipNumbers}
 use Rattle.protocol.specs.Turns.{begin, step, collect, withdraw, enter, turned}
 use Rattle.register.specs.declared.Slip.{Slip}
 use Rattle.register.specs.declared.Refused.{Refused}
-use Rattle.register.specs.Memory.{slip_of, back, hands_out, hands_back}
+use Rattle.register.specs.Memory.{hands_out, hands_back}
 use Rattle.register.specs.Slips.{spendable}
 use Rattle.register.proofs.Holders as holders
 use Rattle.register.proofs.Holders.{Open, open_spendable, spendable_open, Elsewhere, open_elsewhere, stepped_open, Back}

@@ -1,5 +1,5 @@
 -- The lines of a script: how an order is written, and what each line orders.
-use Rattle.std.specs.Prelude.{ℕ, min, cond, List, [], ◌∷◌, ◌++◌, length, Some, None, Ok, Err, codes, decimal, Option, Result, ◌==◌}
+use Rattle.std.specs.Prelude.{ℕ, cond, List, [], ◌∷◌, ◌++◌, length, Some, None, Ok, Err, codes, decimal, Option, Result, ◌==◌}
 use Rattle.std.specs.Str.{bytes_eq}
 use Rattle.keys.specs.declared.Tray.{Tray}
 use Rattle.keys.specs.declared.AboveLimit.{AboveLimit}

@@ -4,11 +4,8 @@ use Rattle.keys.specs.declared.Tray.{Tray}
 use Rattle.keys.specs.Kinds.{tray_order, tray_home}
 use Rattle.protocol.specs.declared.Station.{Station}
 use Rattle.protocol.specs.declared.Stage.TheVariants.{Idle}
-use Rattle.protocol.specs.declared.Answer.{Answer}
-use Rattle.protocol.specs.declared.Departure.{Departure}
-use Rattle.protocol.specs.declared.Progress.{Progress}
 use Rattle.protocol.specs.declared.Refusal.{Refusal}
-use Rattle.protocol.specs.Calls.{World, Out, SlipNumbers}
+use Rattle.protocol.specs.Calls.{World, SlipNumbers}
 use Rattle.protocol.specs.Turns.{begin, step, collect, withdraw, enter, turned}
 use Rattle.register.specs.declared.Slip.{Slip}
 use Rattle.script.specs.declared.orders.Order.{Order}

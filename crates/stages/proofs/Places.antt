@@ -1,7 +1,7 @@
 -- The code reads and writes cell p - 1 where the rules speak of place p.
-use Rattle.std.proofs.Common.{◌≡◌, ℕ, zero, suc, ◌-◌, ◌<◌, ◌≤◌, Bool, true, false, cond, ◌⊎◌, List, [], ◌∷◌, length, get_or, set, sym, refl, ap, ◌∙◌, inl, inr, ⊎_elim, suc-le-suc, le_of_suc-le-suc, not-suc-le-zero, arith}
+use Rattle.std.proofs.Common.{◌≡◌, ℕ, zero, suc, ◌-◌, ◌<◌, ◌≤◌, false, ◌⊎◌, List, [], ◌∷◌, length, get_or, set, sym, refl, ap, ◌∙◌, ⊎_elim, le_of_suc-le-suc, not-suc-le-zero, arith}
 use Rattle.protocol.specs.declared.Cell.{Cell}
-use Rattle.protocol.specs.Cells.{Content, empty, holds, nth, content, content_at, marked_at, contents, marks, alter, alter_place}
+use Rattle.protocol.specs.Cells.{empty, content, content_at, marked_at, contents, marks, alter, alter_place}
 use Rattle.protocol.proofs.Places.{contents_past, alter_past}
 
 module _ {K : Type 0} where

@@ -1,12 +1,12 @@
 -- What a stage makes of what it asked for is the step that the protocol says.
-use Rattle.std.proofs.Common.{◌≡◌, ℕ, Bool, true, false, cond, List, Ordering, refl, ap, ◌∙◌}
+use Rattle.std.proofs.Common.{◌≡◌, ℕ, Bool, true, false, cond, List, refl, ap, ◌∙◌}
 use Rattle.protocol.specs.declared.Cell.{Cell}
 use Rattle.protocol.specs.declared.Act.{Act}
 use Rattle.protocol.specs.declared.Direction.{Direction}
 use Rattle.protocol.specs.declared.Stage.{Stage}
 use Rattle.protocol.specs.declared.Stage.TheVariants.{Idle, Home, Look, Left, Right, FirstMark, SecondMark, GiveBack, Check, Shift, ReleaseLeft, ReleaseRight, Answered}
 use Rattle.protocol.specs.Cells.{Content, empty, holds, cell, contents, marks, cells_after}
-use Rattle.protocol.specs.Step.{Kind, Versus, is_after, walk_at, copy_due, beside, at_home, at_check, copied, at_shift, versus, decide}
+use Rattle.protocol.specs.Step.{Kind, is_after, copy_due, beside, at_home, at_check, copied, at_shift, versus}
 use Rattle.protocol.specs.Calls.{decision}
 use Rattle.stages.specs.declared.rules.Reading.{Reading}
 use Rattle.stages.specs.declared.Entry.{Entry}

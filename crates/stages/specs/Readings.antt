@@ -1,5 +1,5 @@
 -- What a step reads of the cells, and what each stage makes of it: the rules of the protocol's step, on what was read.
-use Rattle.std.specs.Prelude.{ℕ, suc, Bool, true, false, cond, List}
+use Rattle.std.specs.Prelude.{ℕ, suc, true, false, cond, List}
 use Rattle.std.specs.declared.cmp.Ordering.{Ordering}
 use Rattle.protocol.specs.declared.Cell.{Cell}
 use Rattle.protocol.specs.declared.Act.TheVariants.{Unmark}
@@ -9,7 +9,7 @@ use Rattle.protocol.specs.declared.Walk.TheVariants.{Ended}
 use Rattle.protocol.specs.declared.Stage.{Stage}
 use Rattle.protocol.specs.declared.Stage.TheVariants.{Idle, Home, Look, Left, Right, FirstMark, SecondMark, GiveBack, Check, Shift, ReleaseLeft, ReleaseRight, Answered}
 use Rattle.protocol.specs.Cells.{Content, empty, holds, cell, is_occupied, contents, marks}
-use Rattle.protocol.specs.Step.{Kind, Effect, nothing, Decision, Versus, none, is, is_after, walk_at, versus, copy_due, gap_after, beside, decided, goes_to, at_home, at_look, at_left, at_right, at_first, at_second, at_check, written, copied, release}
+use Rattle.protocol.specs.Step.{Kind, nothing, Decision, Versus, none, is, is_after, walk_at, versus, copy_due, beside, decided, goes_to, at_home, at_look, at_left, at_right, at_first, at_second, at_check, written, copied, release}
 use Rattle.stages.specs.declared.rules.Reading.{Reading}
 use Rattle.stages.specs.declared.rules.Move.{Move}
 

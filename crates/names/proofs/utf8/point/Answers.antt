@@ -1,4 +1,4 @@
-use Rattle.std.proofs.Common.{◌∙◌, arith, rules}
+use Rattle.std.proofs.Common.{◌∙◌, rules}
 use Rattle.std.proofs.lemmas.Result.{MatchResult-weaker}
 use Rattle.names.proofs.Points.{first_one, first_two, first_three, first_four}
 use Rattle.names.proofs.utf8.point.Goals as goal

@@ -1,4 +1,4 @@
-use Rattle.std.proofs.Common.{arith, rules}
+use Rattle.std.proofs.Common.{rules}
 use Rattle.names.proofs.Points.{rest_is}
 use Rattle.names.proofs.utf8.two_bytes.Goals as goal
 

@@ -1,5 +1,5 @@
 use Rattle.register.specs.Memory.{behind}
-use Rattle.script.proofs.Spendable.{as_many, held_picked, held_withdrawn, taken_empty, taken_within, none_withdrawn, never_refused}
+use Rattle.script.proofs.Spendable.{as_many, held_picked, held_withdrawn, none_withdrawn, never_refused}
 use Rattle.script.proofs.sessions.Session.withdraw.Goals as goal
 
 pub invariant_of-self : goal.invariant_of-self
