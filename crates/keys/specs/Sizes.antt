@@ -1,29 +1,30 @@
 -- Keys that are compared by a number and have their home by its share: their laws, once for every such kind.
-use Rattle.std.specs.Prelude.{◌≡◌, ℕ, ◌-◌, ◌*◌, ◌/◌, ◌<◌, ◌≤◌, min}
+-- They are stated of std's `nat_cmp`, to which `by_size` computes: a wrong `by_size` is refused where a kind shows its laws.
+use Rattle.std.specs.Prelude.{◌≡◌, ℕ, ◌+◌, ◌-◌, ◌*◌, ◌/◌, ◌<◌, ◌≤◌, min}
 use Rattle.std.specs.declared.cmp.Ordering.TheVariants.{Less, Equal}
-use Rattle.std.proofs.Common.{ap, arith, mul-le-mul_right, mul_comm, div-lt_iff_lt-mul, div-mul-le_self}
+use Rattle.std.proofs.Common.{arith, mul-le-mul_right, mul_comm, div-lt_iff_lt-mul, div-mul-le_self}
 use Rattle.std.proofs.Math.Nat.{mul-lt-mul_of_pos_left, div-le_of_le-mul}
 use Rattle.std.proofs.lemmas.Nat.{le-div}
 use Rattle.std.proofs.lemmas.Bool.Decides.{nat_tests}
-use Rattle.std.specs.Ordering.{ordering_reverse}
+use Rattle.std.specs.Ordering.{nat_cmp, ordering_reverse}
 use Rattle.keys.specs.Laws.{Laws}
-use Rattle.keys.specs.Kinds.{by_size, share, type_order, type_home, tray_order, tray_home}
+use Rattle.keys.specs.Kinds.{share}
 use Rattle.keys.specs.declared.TypeNumber.{TypeNumber}
 use Rattle.keys.specs.declared.Tray.{Tray}
 
-pub size_itself : (x : ℕ) → by_size x x ≡ Equal
+pub size_itself : (x : ℕ) → nat_cmp x x ≡ Equal
 size_itself x = grind (arith, nat_tests)
 
-pub size_equal : (x y : ℕ) → by_size x y ≡ Equal → x ≡ y
+pub size_equal : (x y : ℕ) → nat_cmp x y ≡ Equal → x ≡ y
 size_equal x y e = grind (arith, nat_tests)
 
-size_exchange : (x y : ℕ) → by_size y x ≡ ordering_reverse (by_size x y)
+size_exchange : (x y : ℕ) → nat_cmp y x ≡ ordering_reverse (nat_cmp x y)
 size_exchange x y = grind (arith, nat_tests)
 
-size_onward : (x y z : ℕ) → by_size x y ≡ Less → by_size y z ≡ Less → by_size x z ≡ Less
+size_onward : (x y z : ℕ) → nat_cmp x y ≡ Less → nat_cmp y z ≡ Less → nat_cmp x z ≡ Less
 size_onward x y z p q = grind (arith, nat_tests)
 
-size_less : (x y : ℕ) → by_size x y ≡ Less → x ≤ y
+size_less : (x y : ℕ) → nat_cmp x y ≡ Less → x ≤ y
 size_less x y e = grind (arith, nat_tests)
 
 -- a share of n, for every limit above 0
@@ -42,7 +43,10 @@ share_rises limit k m n l h =
     let low : share limit k n * limit ≤ min k (limit - 1) * n = div-mul-le_self (min k (limit - 1) * n) limit in
     le-div (share limit k n) (min m (limit - 1) * n) limit l (omega arith)
 
-pub number_laws : {K : Type 0} (number : K → ℕ) (limit : ℕ) → 0 < limit → ((x y : K) → number x ≡ number y → x ≡ y) → Laws (λ x y. by_size (number x) (number y)) (λ x n. share limit (number x) n)
+pub above_zero : (k : ℕ) → 0 < k + 1
+above_zero k = omega arith
+
+pub number_laws : {K : Type 0} (number : K → ℕ) (limit : ℕ) → 0 < limit → ((x y : K) → number x ≡ number y → x ≡ y) → Laws (λ x y. nat_cmp (number x) (number y)) (λ x n. share limit (number x) n)
 number_laws number limit l told = record {
   itself = λ x. size_itself (number x);
   equal = λ x y e. told x y (size_equal (number x) (number y) e);
@@ -52,15 +56,9 @@ number_laws number limit l told = record {
   homes = λ x y n p q e. share_rises limit (number x) (number y) n l (size_less (number x) (number y) e);
 }
 
--- the two kinds
-abbrev type_number : ℕ → TypeNumber
-type_number k = record { 0 = k }
+-- the tray and the type number of a number
+abbrev pub tray_numbered : ℕ → Tray
+tray_numbered k = record { number = k }
 
-pub type_laws : Laws type_order type_home
-type_laws = number_laws (λ (x : TypeNumber). x.0) 4294967296 (omega arith) (λ x y e. ap type_number e)
-
-abbrev tray : ℕ → Tray
-tray k = record { number = k }
-
-pub tray_laws : Laws tray_order tray_home
-tray_laws = number_laws (λ (x : Tray). x.number) 1000 (omega arith) (λ x y e. ap tray e)
+abbrev pub type_numbered : ℕ → TypeNumber
+type_numbered k = record { 0 = k }
