@@ -2,4 +2,4 @@ use Rattle.std.proofs.Common.{length}
 use Rattle.examples.proofs.names_tests.reads_and_refuses.Given as goal
 
 abbrev pub decreases-loop-table : goal.decreases-loop-table
-decreases-loop-table l = length l.table
+decreases-loop-table g l = length l.table
