@@ -3,7 +3,7 @@ use Rattle.std.proofs.Common.{◌≡◌, ℕ, ◌+◌, ◌-◌, ◌*◌, ◌<◌
 use Rattle.std.proofs.lemmas.Bool.Decides.{nat_tests}
 use Rattle.names.specs.Utf8.{inside, continues, fits3, fits4, starting_with, first, two, three, four}
 
--- what `rest @ ..` holds startingWith k elements
+-- what `rest @ ..` holds after k elements
 pub rest_is : (k : ℕ) (bs : List ℕ) → take (length bs - k) (drop k bs) ≡ drop k bs
 rest_is k bs = take_all (length bs - k) (drop k bs) (simp length-drop (omega arith))
 

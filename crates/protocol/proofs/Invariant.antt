@@ -117,7 +117,7 @@ module _ {K : Type 0} {N : ℕ} (κ : Lawful K N) where
 
   -- the gap, at place g, came from r: up to it the cells are the table's, beyond it they are one place further right;
   -- what was copied is after k, which is not there; and one worker would have started at r too
-  pub record Shifting-left (T : ℕ → Content K) (M : ℕ → Bool) (S : ℕ → Content K) (k : K) (l r g : ℕ) : Type 0 where
+  pub record ShiftingLeft (T : ℕ → Content K) (M : ℕ → Bool) (S : ℕ → Content K) (k : K) (l r g : ℕ) : Type 0 where
     pub region : Region T M k l r
     pub cell_r : r ≤ N
     pub l_g : l < g
@@ -131,7 +131,7 @@ module _ {K : Type 0} {N : ℕ} (κ : Lawful K N) where
     pub chosen : starts_right κ.kind S k l r ≡ true
 
   -- the gap, at place g, came from l: the mirror image
-  pub record Shifting-right (T : ℕ → Content K) (M : ℕ → Bool) (S : ℕ → Content K) (k : K) (l r g : ℕ) : Type 0 where
+  pub record ShiftingRight (T : ℕ → Content K) (M : ℕ → Bool) (S : ℕ → Content K) (k : K) (l r g : ℕ) : Type 0 where
     pub region : Region T M k l r
     pub cell_l : 0 < l
     pub l_g : l ≤ g
@@ -155,8 +155,8 @@ module _ {K : Type 0} {N : ℕ} (κ : Lawful K N) where
   Good T M S k (SecondMark l r) = Region T M k l r × (T l ≡ empty)
   Good T M S k (GiveBack g) = cell N (suc g) ≡ true
   Good T M S k (Check l r p) = Checking T M S k l r p
-  Good T M S k (Shift Leftward l r g) = Shifting-left T M S k l r (suc g)
-  Good T M S k (Shift Rightward l r g) = Shifting-right T M S k l r (suc g)
+  Good T M S k (Shift Leftward l r g) = ShiftingLeft T M S k l r (suc g)
+  Good T M S k (Shift Rightward l r g) = ShiftingRight T M S k l r (suc g)
   Good T M S k (ReleaseLeft l r a) = l < r
   Good T M S k (ReleaseRight r a) = Unit {0}
   Good T M S k (Answered a) = Unit {0}

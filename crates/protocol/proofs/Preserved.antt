@@ -9,7 +9,7 @@ use Rattle.protocol.specs.Step.{Effect, nothing, took, Decision, decide}
 use Rattle.protocol.specs.Calls.{fresh, idled, leaving, stepped_record}
 use Rattle.protocol.specs.Turns.{noted, watched}
 use Rattle.protocol.specs.OneWorker.{one_worker, table, Alike}
-use Rattle.protocol.specs.Safety.{Was-new, now_new, earlier, NewOnce}
+use Rattle.protocol.specs.Safety.{WasNew, now_new, earlier, NewOnce}
 use Rattle.protocol.proofs.Lawful.{Lawful}
 use Rattle.protocol.proofs.Updates.{updated_same, updated_at, updated_other}
 use Rattle.protocol.proofs.Sorted.{Sorted, inside}
@@ -130,13 +130,13 @@ module _ {K : Type 0} {N : ℕ} (κ : Lawful K N) where
     pub busy_is : (s : ℕ) → w.unfinished s ≡ busy (w.station s).stage
     pub alike : Alike κ.kind w.effects
     pub new_once : NewOnce w.effects
-    pub new_in : (k : K) → Was-new k w.effects → (p : ℕ) × (table κ.kind w.effects p ≡ holds k)
+    pub new_in : (k : K) → WasNew k w.effects → (p : ℕ) × (table κ.kind w.effects p ≡ holds k)
 
   -- the log after an effect
   record Noted (es : List (K × Answer)) : Type 0 where
     alike : Alike κ.kind es
     new_once : NewOnce es
-    new_in : (k : K) → Was-new k es → (p : ℕ) × (table κ.kind es p ≡ holds k)
+    new_in : (k : K) → WasNew k es → (p : ℕ) × (table κ.kind es p ≡ holds k)
 
   noting : (es : List (K × Answer)) (k : K) (e : Effect) → Sorted κ (table κ.kind es) → Noted es → RightAnswer κ k e (table κ.kind es)
       → Noted (noted k e es)
@@ -156,7 +156,7 @@ module _ {K : Type 0} {N : ℕ} (κ : Lawful K N) where
         new_in = λ x h. go x h;
       }
     where
-      go : (x : K) → Was-new x ((k, a) ∷ es) → (p : ℕ) × ((one_worker κ.kind (table κ.kind es) k).0 p ≡ holds x)
+      go : (x : K) → WasNew x ((k, a) ∷ es) → (p : ℕ) × ((one_worker κ.kind (table κ.kind es) k).0 p ≡ holds x)
       go x (now_new e) = r.2 e
       go x (earlier h) = let q = n.new_in x h in r.1 x q.0 q.1
 

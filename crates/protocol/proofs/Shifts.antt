@@ -8,14 +8,14 @@ use Rattle.protocol.specs.OneWorker.{is_less, is_greater, lower, higher, slide_l
 use Rattle.protocol.proofs.Lawful.{Lawful, order_turn, by_place, versus_is, versus_occupied}
 use Rattle.protocol.proofs.Updates.{updated_at, updated_other, not_both, holds_occupied, holds_inj}
 use Rattle.protocol.proofs.Sorted.{home_left, home_right, More, more_sorted, between_only}
-use Rattle.protocol.proofs.Worker.{Slid-up, Slid-down, is_higher, is_lower, slid_up, slid_down, worker_gap}
+use Rattle.protocol.proofs.Worker.{SlidUp, SlidDown, is_higher, is_lower, slid_up, slid_down, worker_gap}
 use Rattle.protocol.proofs.Holding.{holder}
-use Rattle.protocol.proofs.Invariant.{Owner, Keeps, Solid, answer_new, Shifting-left, Shifting-right, Core, region_stable, make, agree_still}
+use Rattle.protocol.proofs.Invariant.{Owner, Keeps, Solid, answer_new, ShiftingLeft, ShiftingRight, Core, region_stable, make, agree_still}
 use Rattle.protocol.proofs.Regions.{closed_shift, keeps_off}
 use Rattle.protocol.proofs.Steps.{Done}
 
 module _ {K : Type 0} {N : ℕ} (κ : Lawful K N) {T : ℕ → Content K} {M : ℕ → Bool} {O : ℕ → Owner} {ky : ℕ → K} {st : ℕ → Stage} {S : ℕ → Content K} (c : Core κ T M O ky st S) (s : ℕ) where
-  module _ (l r u : ℕ) (e : st s ≡ Shift Leftward l r u) (d : Shifting-left κ T M S (ky s) l r (suc u)) where
+  module _ (l r u : ℕ) (e : st s ≡ Shift Leftward l r u) (d : ShiftingLeft κ T M S (ky s) l r (suc u)) where
     off_left : (t p : ℕ) → s ≢ t → Keeps (st t) p → suc u ≤ p → p ≤ r → ⊥
     off_left t p n h a b =
         ⊎_elim (λ f. f (omega arith) (omega arith)) (λ x. x)
@@ -52,7 +52,7 @@ module _ {K : Type 0} {N : ℕ} (κ : Lawful K N) {T : ℕ → Content K} {M : �
             (λ p. ap (λ y. holder N y p) (sym e) ∙ c.owned s p) (λ t p n. refl) c.marks so
             (λ t p n z.
             (⊎_elim (λ (y : suc u ≡ p). absurd (off_left t p n z (omega arith) (omega arith))) (λ n'. other p n') (cases_eq (suc u) p), refl))
-            (subst (λ i. Shifting-left κ T' M S (ky s) l r i) (let z : u ≡ suc (pred u) = omega (arith, inner) in z) (record {
+            (subst (λ i. ShiftingLeft κ T' M S (ky s) l r i) (let z : u ≡ suc (pred u) = omega (arith, inner) in z) (record {
               region = region_stable κ T T' M M so d.region;
               cell_r = d.cell_r;
               l_g = inner;
@@ -110,7 +110,7 @@ module _ {K : Type 0} {N : ℕ} (κ : Lawful K N) {T : ℕ → Content K} {M : �
             worker_gap κ S k l r r absent (omega arith) d.cell_r d.er d.region.l_h d.region.h_r d.region.top d.el d.er solid_s
             ∙ ap (λ b. from_side κ.kind b S k l r) d.chosen
 
-        sl : Slid-up S S' k u r
+        sl : SlidUp S S' k u r
         sl = slid_up κ r S k u (omega arith) (λ q x y. is_higher κ k (S q) (d.afters q (omega arith) y)) (ap (higher κ.kind k) s_pred ∙ stop)
 
         under : (p : ℕ) → p < suc u → S' p ≡ S p
@@ -243,7 +243,7 @@ module _ {K : Type 0} {N : ℕ} (κ : Lawful K N) {T : ℕ → Content K} {M : �
             by_order same o = absurd (d.absent u (omega arith) (omega arith) (s_pred ∙ ty ∙ ap holds (κ.order_same y (ky s) o)))
             by_order after o = copy_left y ty (ap (versus κ.kind (ky s)) ty ∙ ap is o)
 
-  module _ (l r u : ℕ) (e : st s ≡ Shift Rightward l r u) (d : Shifting-right κ T M S (ky s) l r (suc u)) where
+  module _ (l r u : ℕ) (e : st s ≡ Shift Rightward l r u) (d : ShiftingRight κ T M S (ky s) l r (suc u)) where
     off_right : (t p : ℕ) → s ≢ t → Keeps (st t) p → l ≤ p → p ≤ suc u → ⊥
     off_right t p n h a b =
         ⊎_elim (λ f. f (omega arith) (omega arith)) (λ x. x)
@@ -342,7 +342,7 @@ module _ {K : Type 0} {N : ℕ} (κ : Lawful K N) {T : ℕ → Content K} {M : �
             worker_gap κ S k l r l absent d.cell_l (omega arith) d.el d.region.l_h d.region.h_r d.region.top d.el d.er solid_s
             ∙ ap (λ b. from_side κ.kind b S k l r) d.chosen
 
-        sl : Slid-down S S' k l (suc u)
+        sl : SlidDown S S' k l (suc u)
         sl =
             slid_down κ N S k l (suc u) (omega arith) (omega arith)
             (λ q x y. is_lower κ k (S q) (d.befores q x y)) (ap (lower κ.kind k) s_next ∙ stop)

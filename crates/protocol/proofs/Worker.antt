@@ -11,13 +11,13 @@ use Rattle.protocol.proofs.Sorted.{Sorted}
 
 module _ {K : Type 0} where
   -- the keys from suc b to r - 1 went one up, k stands at suc b
-  pub record Slid-up (S S' : ℕ → Content K) (k : K) (b r : ℕ) : Type 0 where
+  pub record SlidUp (S S' : ℕ → Content K) (k : K) (b r : ℕ) : Type 0 where
     pub gap : S' (suc b) ≡ holds k
     pub under : (p : ℕ) → p ≤ b → S' p ≡ S p
     pub above : (p : ℕ) → r < p → S' p ≡ S p
     pub moved : (p : ℕ) → b < p → p < r → S' (suc p) ≡ S p
 
-  pub record Slid-down (S S' : ℕ → Content K) (k : K) (l f : ℕ) : Type 0 where
+  pub record SlidDown (S S' : ℕ → Content K) (k : K) (l f : ℕ) : Type 0 where
     pub gap : S' f ≡ holds k
     pub under : (p : ℕ) → p < l → S' p ≡ S p
     pub above : (p : ℕ) → f < p → S' p ≡ S p
@@ -79,7 +79,7 @@ module _ {K : Type 0} {N : ℕ} (κ : Lawful K N) where
   slide_left_more S k g e = cond-true (higher κ.kind k (S g)) (slide_left κ.kind (updated S (suc g) (S g)) k g) (updated S (suc g) (holds k)) e
 
   pub slid_up : (r : ℕ) (S : ℕ → Content K) (k : K) (b : ℕ) → b < r → ((q : ℕ) → b < q → q < r → higher κ.kind k (S q) ≡ true)
-      → higher κ.kind k (S b) ≡ false → Slid-up S (slide_left κ.kind S k r) k b r
+      → higher κ.kind k (S b) ≡ false → SlidUp S (slide_left κ.kind S k r) k b r
   slid_up zero S k b lt f s = absurd (omega arith)
   slid_up (suc r) S k b lt f s =
       ⊎_elim
@@ -118,7 +118,7 @@ module _ {K : Type 0} {N : ℕ} (κ : Lawful K N) where
       cond-true (lower κ.kind k (S (suc g))) (slide_right κ.kind n (updated S g (S (suc g))) k (suc g)) (updated S g (holds k)) e
 
   stopped_down : (n : ℕ) (S : ℕ → Content K) (k : K) (l f : ℕ) → f ≡ l → lower κ.kind k (S (suc f)) ≡ false
-      → Slid-down S (slide_right κ.kind n S k l) k l f
+      → SlidDown S (slide_right κ.kind n S k l) k l f
   stopped_down n S k l f e s = rw (slide_right_stop n S k l (subst (λ i. lower κ.kind k (S (suc i)) ≡ false) e s)) (record {
     gap = updated_at S l f (holds k) (omega arith);
     under = λ p a. updated_other S l p (holds k) (omega arith);
@@ -127,7 +127,7 @@ module _ {K : Type 0} {N : ℕ} (κ : Lawful K N) where
   })
 
   pub slid_down : (n : ℕ) (S : ℕ → Content K) (k : K) (l f : ℕ) → l ≤ f → f ≤ l + n → ((q : ℕ) → l < q → q ≤ f → lower κ.kind k (S q) ≡ true)
-      → lower κ.kind k (S (suc f)) ≡ false → Slid-down S (slide_right κ.kind n S k l) k l f
+      → lower κ.kind k (S (suc f)) ≡ false → SlidDown S (slide_right κ.kind n S k l) k l f
   slid_down zero S k l f le to h s = stopped_down zero S k l f (omega arith) s
   slid_down (suc n) S k l f le to h s =
       ⊎_elim

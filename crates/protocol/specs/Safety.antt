@@ -11,14 +11,14 @@ use Rattle.protocol.specs.OneWorker.{table, Alike}
 
 module _ {K : Type 0} where
   -- k was new at one of these effects
-  pub data Was-new (k : K) : List (K × Answer) → Type 0 where
-    now_new : {es : List (K × Answer)} {a : Answer} → a ≡ Inserted → Was-new k ((k, a) ∷ es)
-    earlier : {e : K × Answer} {es : List (K × Answer)} → Was-new k es → Was-new k (e ∷ es)
+  pub data WasNew (k : K) : List (K × Answer) → Type 0 where
+    now_new : {es : List (K × Answer)} {a : Answer} → a ≡ Inserted → WasNew k ((k, a) ∷ es)
+    earlier : {e : K × Answer} {es : List (K × Answer)} → WasNew k es → WasNew k (e ∷ es)
 
   -- no key is new twice
   unfoldable pub NewOnce : List (K × Answer) → Type 0
   NewOnce [] = Unit {0}
-  NewOnce (e ∷ es) = NewOnce es × (e.1 ≡ Inserted → Was-new e.0 es → ⊥)
+  NewOnce (e ∷ es) = NewOnce es × (e.1 ≡ Inserted → WasNew e.0 es → ⊥)
 
 -- no cell is marked
 abbrev pub NoMark : {K : Type 0} → World K → Type 0

@@ -45,7 +45,7 @@ impl<K: Key> Entry<K> {
         if !names_cells(cells.len(), self.stage) {
             return Err(Refusal::NoCell);
         }
-        steps::make_step(cells, self);
+        steps::turn(cells, self);
         Ok(())
     }
 }

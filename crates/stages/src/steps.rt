@@ -75,7 +75,7 @@ fn read<K: Key>(cells: &[Cell<K>], entry: Entry<K>, h: usize) -> Reading<K>
 }
 
 /// Makes the step of an entry.
-pub fn make_step<K: Key>(cells: &mut [Cell<K>], entry: &mut Entry<K>)
+pub fn turn<K: Key>(cells: &mut [Cell<K>], entry: &mut Entry<K>)
     requires some { 1 ≤ length cells.old }
     requires few { length cells.old ≤ 65536 }
     requires named { names_cells (length cells.old) entry.old.stage ≡ true }

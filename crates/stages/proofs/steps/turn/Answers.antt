@@ -1,7 +1,7 @@
 use Rattle.std.proofs.Common.{◌≡◌, suc, ◌+◌, length, arith}
 use Rattle.protocol.specs.Step.{kind_over}
 use Rattle.stages.proofs.Told.{entry_after, cells_then}
-use Rattle.stages.proofs.steps.make_step.Goals as goal
+use Rattle.stages.proofs.steps.turn.Goals as goal
 
 pub returns : goal.returns
 returns g c =
