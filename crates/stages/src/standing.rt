@@ -19,15 +19,13 @@ pub fn is_busy(stage: Stage) -> bool
 
 /// Whether a number is a place of `n` cells: an edge or a cell.
 fn is_named(n: usize, place: usize) -> bool
-    requires { n ≤ 65536 }
     ensures { result ≡ is_place n place }
 {
-    place < n + 2
+    place.saturating_sub(n) < 2
 }
 
 /// Whether a stage names no cell but those below `n`.
 pub fn names_cells(n: usize, stage: Stage) -> bool
-    requires { n ≤ 65536 }
     ensures { result ≡ names_cells n stage }
 {
     match stage {
