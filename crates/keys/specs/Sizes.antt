@@ -1,8 +1,9 @@
 -- Keys that are compared by a number and have their home by its share: their laws, once for every such kind.
--- They are stated of std's `nat_cmp`, to which `by_size` computes: a wrong `by_size` is refused where a kind shows its laws.
+-- Any comparison will do that is std's `nat_cmp` at every two numbers: each kind shows that of its own.
 use Rattle.std.specs.Prelude.{◌≡◌, ℕ, ◌+◌, ◌-◌, ◌*◌, ◌/◌, ◌<◌, ◌≤◌, min}
 use Rattle.std.specs.declared.cmp.Ordering.TheVariants.{Less, Equal}
-use Rattle.std.proofs.Common.{arith, mul-le-mul_right, mul_comm, div-lt_iff_lt-mul, div-mul-le_self}
+use Rattle.std.specs.declared.cmp.Ordering.{Ordering}
+use Rattle.std.proofs.Common.{sym, ap, ◌∙◌, arith, mul-le-mul_right, mul_comm, div-lt_iff_lt-mul, div-mul-le_self}
 use Rattle.std.proofs.Math.Nat.{mul-lt-mul_of_pos_left, div-le_of_le-mul}
 use Rattle.std.proofs.lemmas.Nat.{le-div}
 use Rattle.std.proofs.lemmas.Bool.Decides.{nat_tests}
@@ -46,14 +47,18 @@ share_rises limit k m n l h =
 pub above_zero : (k : ℕ) → 0 < k + 1
 above_zero k = omega arith
 
-pub number_laws : {K : Type 0} (number : K → ℕ) (limit : ℕ) → 0 < limit → ((x y : K) → number x ≡ number y → x ≡ y) → Laws (λ x y. nat_cmp (number x) (number y)) (λ x n. share limit (number x) n)
-number_laws number limit l told = record {
-  itself = λ x. size_itself (number x);
-  equal = λ x y e. told x y (size_equal (number x) (number y) e);
-  exchange = λ x y. size_exchange (number x) (number y);
-  onward = λ x y z p q. size_onward (number x) (number y) (number z) p q;
+pub number_laws : {K : Type 0} (compare : ℕ → ℕ → Ordering) → ((x y : ℕ) → compare x y ≡ nat_cmp x y) → (number : K → ℕ) (limit : ℕ) → 0 < limit
+    → ((x y : K) → number x ≡ number y → x ≡ y) → Laws (λ x y. compare (number x) (number y)) (λ x n. share limit (number x) n)
+number_laws compare sized number limit l told = record {
+  itself = λ x. sized (number x) (number x) ∙ size_itself (number x);
+  equal = λ x y e. told x y (size_equal (number x) (number y) (sym (sized (number x) (number y)) ∙ e));
+  exchange = λ x y.
+      sized (number y) (number x) ∙ size_exchange (number x) (number y) ∙ ap ordering_reverse (sym (sized (number x) (number y)));
+  onward = λ x y z p q.
+      sized (number x) (number z)
+      ∙ size_onward (number x) (number y) (number z) (sym (sized (number x) (number y)) ∙ p) (sym (sized (number y) (number z)) ∙ q);
   within = λ x n p q. share_below limit (number x) n l p;
-  homes = λ x y n p q e. share_rises limit (number x) (number y) n l (size_less (number x) (number y) e);
+  homes = λ x y n p q e. share_rises limit (number x) (number y) n l (size_less (number x) (number y) (sym (sized (number x) (number y)) ∙ e));
 }
 
 -- the tray and the type number of a number

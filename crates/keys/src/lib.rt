@@ -4,8 +4,9 @@
 ghost use Rattle.std.specs.Prelude.{◌≡◌, ℕ};
 ghost use Rattle.std.specs.declared.cmp.Ordering.{Ordering};
 ghost use Rattle.keys.specs.Laws.{Laws};
-ghost use Rattle.keys.specs.Kinds.{type_order, type_home, tray_order, tray_home, tray_of, refusal_number};
-ghost use Rattle.std.proofs.Common.{ap};
+ghost use Rattle.keys.specs.Kinds.{by_size, type_order, type_home, tray_order, tray_home, tray_of, refusal_number};
+ghost use Rattle.std.proofs.Common.{ap, arith};
+ghost use Rattle.std.proofs.lemmas.Bool.Decides.{nat_tests};
 ghost use Rattle.keys.specs.Sizes.{number_laws, above_zero, type_numbered, tray_numbered};
 ghost use Rattle.keys.specs.declared.Tray.{Tray};
 ghost use Rattle.keys.specs.declared.TypeNumber.{TypeNumber};
@@ -41,7 +42,7 @@ impl Key for TypeNumber {
 
     ghost home = { type_home };
 
-    ghost lawful = { number_laws (λ (x : TypeNumber). x.0) 4294967296 (above_zero 4294967295) (λ x y e. ap type_numbered e) };
+    ghost lawful = { number_laws by_size (λ x y. Prim.grind (arith, nat_tests)) (λ (x : TypeNumber). x.0) 4294967296 (above_zero 4294967295) (λ x y e. ap type_numbered e) };
 
     fn compare(self, other: TypeNumber) -> Ordering {
         self.0.cmp(&other.0)
@@ -96,7 +97,7 @@ impl Key for Tray {
 
     ghost home = { tray_home };
 
-    ghost lawful = { number_laws (λ (x : Tray). x.number) 1000 (above_zero 999) (λ x y e. ap tray_numbered e) };
+    ghost lawful = { number_laws by_size (λ x y. Prim.grind (arith, nat_tests)) (λ (x : Tray). x.number) 1000 (above_zero 999) (λ x y e. ap tray_numbered e) };
 
     fn compare(self, other: Tray) -> Ordering {
         self.number.cmp(&other.number)

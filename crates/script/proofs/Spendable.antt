@@ -19,7 +19,7 @@ use Rattle.register.specs.Slips.{spendable}
 use Rattle.register.proofs.Holders as holders
 use Rattle.register.proofs.Holders.{Open, open_spendable, spendable_open, Elsewhere, open_elsewhere, stepped_open, Back}
 use Rattle.script.specs.declared.replies.Reply.{Reply}
-use Rattle.script.specs.declared.replies.Reply.TheVariants.{Begun, Stepped, Told, Withdrawn, Refused as Refused-with, NoSlip, Shown, Nothing, Faulty}
+use Rattle.script.specs.declared.replies.Reply.TheVariants.{Begun, Stepped, Told, Withdrawn, Refused as RefusedWith, NoSlip, Shown, Nothing, Faulty}
 use Rattle.script.specs.Hands.{held_at, Held, one_if, slips_left}
 use Rattle.script.specs.Sessions.{After, reply, without_slip, collected_by, collected, withdrawn_by, withdrawn}
 
@@ -132,9 +132,9 @@ module _ (w w' : World Tray) (slips : List (Option Slip)) (h : Held w slips) whe
         subst (λ (v : World Tray). Held v slips) (sym (holders.begin_refused (length w.cells) w w' s k e r)) h
 
   -- a collection or a withdrawal with the slip in hand at station s
-  module _ (s : ℕ) (x : Slip) (in-hand : Some x ≡ get_or slips s None) where
+  module _ (s : ℕ) (x : Slip) (in_hand : Some x ≡ get_or slips s None) where
     own : (x.station ≡ s) × Open w x.register x.station
-    own = held_open w s x (subst (λ o. held_at w s o ≡ true) (sym in-hand) (h s))
+    own = held_open w s x (subst (λ o. held_at w s o ≡ true) (sym in_hand) (h s))
 
     pub held_collected : (a : Result Answer Refused) (slips' : List (Option Slip)) → (w', a) ≡ hands_back x (turned tray_order tray_home w (collect x.register x.station)) → slips' ≡ set slips s None → Held w' slips'
     held_collected a slips' q is =
@@ -189,25 +189,25 @@ module _ (w : World Tray) (slips : List (Option Slip)) (s : ℕ) where
       ap (λ (hs : List (Option Slip)). (w, hs, NoSlip)) (is ∙ taken_none slips s e) ∙ ap (withdrawn_by w slips s) e
 
   -- a refused collection: the same slip is in hand again
-  module _ (w' : World Tray) (picked slips' : List (Option Slip)) (x : Slip) (b : Refused) (in-hand : Some x ≡ get_or slips s None)
+  module _ (w' : World Tray) (picked slips' : List (Option Slip)) (x : Slip) (b : Refused) (in_hand : Some x ≡ get_or slips s None)
       (q : (w', Err b) ≡ hands_back x (turned tray_order tray_home w (collect x.register x.station))) (is : picked ≡ set slips s None) (laid : slips' ≡ set picked s (Some b.slip)) where
     given_back : Back w' x b (turned tray_order tray_home w (collect x.register x.station))
     given_back =
         holders.handed_back w' _ x b _ (ap (λ (v : World Tray × Result Answer Refused). v.0) q) (ap (λ (v : World Tray × Result Answer Refused). v.1) q)
 
     same_slips : slips' ≡ slips
-    same_slips = laid ∙ ap (λ (hs : List (Option Slip)). set hs s (Some b.slip)) is ∙ laid_back slips s x b.slip in-hand given_back.slip_is
+    same_slips = laid ∙ ap (λ (hs : List (Option Slip)). set hs s (Some b.slip)) is ∙ laid_back slips s x b.slip in_hand given_back.slip_is
 
     pub held_not_collected : Held w slips → Held w' slips'
     held_not_collected h =
         let same : w' ≡ w = holders.collect_refused (length w.cells) w w' x.register x.station b.refusal given_back.answer in
         subst (Held w') (sym same_slips) (subst (λ (v : World Tray). Held v slips) (sym same) h)
 
-    pub not_collected : (w', slips', Refused-with b.refusal) ≡ collected w slips s
+    pub not_collected : (w', slips', RefusedWith b.refusal) ≡ collected w slips s
     not_collected =
-        ap (λ (hs : List (Option Slip)). (w', hs, Refused-with b.refusal)) same_slips
+        ap (λ (hs : List (Option Slip)). (w', hs, RefusedWith b.refusal)) same_slips
         ∙ ap (λ (o : Out Tray Answer). (o.0, without_slip slips s o.1, reply Told o.1)) given_back.answer
-        ∙ ap (collected_by w slips s) in-hand
+        ∙ ap (collected_by w slips s) in_hand
 
 -- The slip in hand at station s is withdrawn: none is left there, and there was one unless the reply says so.
 abbrev counted : Reply → ℕ
@@ -216,7 +216,7 @@ counted Begun = 1
 counted (Stepped p) = 1
 counted (Told a) = 1
 counted (Withdrawn d) = 1
-counted (Refused-with e) = 1
+counted (RefusedWith e) = 1
 counted Shown = 1
 counted Nothing = 1
 counted (Faulty f) = 1
@@ -227,7 +227,7 @@ some_count Begun n = refl
 some_count (Stepped p) n = refl
 some_count (Told a) n = refl
 some_count (Withdrawn d) n = refl
-some_count (Refused-with e) n = refl
+some_count (RefusedWith e) n = refl
 some_count Shown n = refl
 some_count Nothing n = refl
 some_count (Faulty f) n = refl

@@ -45,10 +45,10 @@ module _ {K : Type 0} {N : ℕ} (κ : Kind K N) (cs : List (Cell K)) (k : K) whe
   told_from : (h : ℕ) (s : Reading K) (x : Stage) → h ≡ κ.place k → s ≡ reading κ cs k x → told k h N x s ≡ decision κ cs k x
   told_from h s x e f = ap (λ p. told k p N x s) e ∙ ap (told k (κ.place k) N x) f ∙ told_is x
 
-  module _ (h : ℕ) (s : Reading K) (e : Entry K) (home-is : h ≡ κ.place k) (read_is : s ≡ reading κ cs k e.stage) where
+  module _ (h : ℕ) (s : Reading K) (e : Entry K) (home_is : h ≡ κ.place k) (read_is : s ≡ reading κ cs k e.stage) where
     -- the entry after a step, and the cells
     pub entry_after : (e' : Entry K) → e' ≡ record { key = k; stage = (told k h N e.stage s).next } → e' ≡ record { key = k; stage = (decision κ cs k e.stage).next }
-    entry_after e' z = z ∙ ap (λ m. record { key = k; stage = m.next }) (told_from h s e.stage home-is read_is)
+    entry_after e' z = z ∙ ap (λ m. record { key = k; stage = m.next }) (told_from h s e.stage home_is read_is)
 
     pub cells_then : (a : Act K) (cs' : List (Cell K)) → a ≡ (told k h N e.stage s).act → cs' ≡ cells_after a cs → cs' ≡ cells_after (decision κ cs k e.stage).act cs
-    cells_then a cs' y z = z ∙ ap (λ b. cells_after b cs) (y ∙ ap (λ m. m.act) (told_from h s e.stage home-is read_is))
+    cells_then a cs' y z = z ∙ ap (λ b. cells_after b cs) (y ∙ ap (λ m. m.act) (told_from h s e.stage home_is read_is))
