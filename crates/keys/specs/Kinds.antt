@@ -1,5 +1,5 @@
 -- The comparison and the home of type numbers and trays.
-use Rattle.std.specs.Prelude.{ℕ, ◌-◌, ◌*◌, ◌/◌, min, cond, Ok, Err, Result, ◌==◌, nat_le, nat_lt}
+use Rattle.std.specs.Prelude.{ℕ, ◌-◌, ◌*◌, ◌/◌, min, cond, List, ◌++◌, Ok, Err, Result, codes, decimal, ◌==◌, nat_le, nat_lt}
 use Rattle.std.specs.declared.cmp.Ordering.TheVariants.{Less, Equal, Greater}
 use Rattle.std.specs.declared.cmp.Ordering.{Ordering}
 use Rattle.keys.specs.declared.TypeNumber.{TypeNumber}
@@ -33,3 +33,7 @@ tray_of k = cond (nat_le k 999) (Ok record { number = k }) (Err record {})
 -- the number of the refusal of a tray
 abbrev pub refusal_number : AboveLimit → ℕ
 refusal_number e = 13
+
+-- how the refusal is printed
+abbrev pub refusal_text : AboveLimit → List ℕ
+refusal_text e = codes "REFUSED " ++ decimal (refusal_number e)

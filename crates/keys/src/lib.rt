@@ -1,10 +1,10 @@
 //! Kinds of key: what every key of the register can do, and two kinds, type numbers and trays.
 #![tactic(auto)]
 
-ghost use Rattle.std.specs.Prelude.{◌≡◌, ℕ};
+ghost use Rattle.std.specs.Prelude.{◌≡◌, ℕ, ◌<◌, Some};
 ghost use Rattle.std.specs.declared.cmp.Ordering.{Ordering};
 ghost use Rattle.keys.specs.Laws.{Laws};
-ghost use Rattle.keys.specs.Kinds.{by_size, type_order, type_home, tray_order, tray_home, tray_of, refusal_number};
+ghost use Rattle.keys.specs.Kinds.{by_size, share, type_order, type_home, tray_order, tray_home, tray_of, refusal_number, refusal_text};
 ghost use Rattle.std.proofs.Common.{ap, arith};
 ghost use Rattle.std.proofs.lemmas.Bool.Decides.{nat_tests};
 ghost use Rattle.keys.specs.Sizes.{number_laws, above_zero, type_numbered, tray_numbered};
@@ -12,6 +12,8 @@ ghost use Rattle.keys.specs.declared.Tray.{Tray};
 ghost use Rattle.keys.specs.declared.TypeNumber.{TypeNumber};
 
 use std::cmp::Ordering;
+use std::error::Error;
+use std::fmt;
 
 /// A kind of key: a comparison and a home, both by the key's value alone.
 ///
@@ -33,6 +35,16 @@ pub trait Key: Copy {
     ghost lawful: { Laws order home };
 }
 
+/// How many of `n` cells come before the home of the number `k` among the numbers below `LIMIT`: floor(k × n / LIMIT).
+///
+/// A number from `LIMIT` on has the home of `LIMIT - 1`.
+pub fn share<const LIMIT: u64>(k: u64, n: usize) -> usize
+    requires { 0 < LIMIT }
+    ensures { result ≡ share LIMIT k n }
+{
+    (u128::from(k.min(LIMIT - 1)) * n as u128 / u128::from(LIMIT)) as usize
+}
+
 /// The number of a coin type: any 32-bit number.
 #[derive(Clone, Copy, PartialEq, Eq, Debug)]
 pub struct TypeNumber(pub u32);
@@ -49,7 +61,7 @@ impl Key for TypeNumber {
     }
 
     fn home(self, n: usize) -> usize {
-        (u128::from(self.0) * n as u128 / 4_294_967_296) as usize
+        share::<4_294_967_296>(u64::from(self.0), n)
     }
 }
 
@@ -71,6 +83,16 @@ impl AboveLimit {
         13
     }
 }
+
+impl fmt::Display for AboveLimit {
+    ghost output = { λ e. Some (refusal_text e) };
+
+    fn fmt<W: fmt::Write>(&self, f: &mut fmt::Formatter<W>) -> fmt::Result {
+        write!(f, "REFUSED {}", self.number())
+    }
+}
+
+impl Error for AboveLimit {}
 
 impl Tray {
     /// The tray of this number, refused above 999.
@@ -105,6 +127,6 @@ impl Key for Tray {
 
     /// A number above 999, which no call makes, has the home of 999.
     fn home(self, n: usize) -> usize {
-        (u128::from(self.number.min(999)) * n as u128 / 1000) as usize
+        share::<1000>(u64::from(self.number), n)
     }
 }

@@ -7,21 +7,38 @@
 //! A *place* counts the cells together with the two edges: 0 is the left edge, i + 1 is cell i, and N + 1 is the right edge.
 #![tactic(auto)]
 
-ghost use Rattle.std.specs.Prelude.{◌≡◌};
+ghost use Rattle.std.specs.Prelude.{◌≡◌, Some};
+ghost use Rattle.protocol.specs.Calls.{blank, fresh, idled};
 ghost use Rattle.protocol.specs.Refusals.{number_of};
+ghost use Rattle.protocol.specs.Texts.{answer_text, progress_text, departure_text, refusal_text};
 ghost use Rattle.protocol.specs.Safety.{Safe};
 ghost use Rattle.protocol.specs.Examples.{Examples};
 
 use keys::Key;
+use std::error::Error;
+use std::fmt;
 
 /// One cell of the caller's memory: empty or occupied by a key, marked or unmarked.
 ///
 /// An empty cell has a key too, a filler that counts as none.
-#[derive(Clone, Copy)]
+#[derive(Clone, Copy, PartialEq, Eq, Debug)]
 pub struct Cell<K> {
     pub key: K,
     pub occupied: bool,
     pub marked: bool,
+}
+
+impl<K: Key> Cell<K> {
+    /// An empty, unmarked cell with this filler.
+    pub fn empty(filler: K) -> Cell<K>
+        ensures { (c : Cell K) → result ≡ blank filler c }
+    {
+        Cell {
+            key: filler,
+            occupied: false,
+            marked: false,
+        }
+    }
 }
 
 /// What an entry is told of its key.
@@ -35,8 +52,20 @@ pub enum Answer {
     Full,
 }
 
+impl fmt::Display for Answer {
+    ghost output = { λ a. Some (answer_text a) };
+
+    fn fmt<W: fmt::Write>(&self, f: &mut fmt::Formatter<W>) -> fmt::Result {
+        f.write_str(match self {
+            Answer::Inserted => "INSERTED",
+            Answer::Found => "FOUND",
+            Answer::Full => "FULL",
+        })
+    }
+}
+
 /// Which way a shift moves its gap.
-#[derive(Clone, Copy)]
+#[derive(Clone, Copy, PartialEq, Eq, Debug)]
 pub enum Direction {
     Leftward,
     Rightward,
@@ -45,7 +74,7 @@ pub enum Direction {
 /// Where a station stands with its entry: places, boundaries, and the answer once there is one.
 ///
 /// `left` and `right` are the boundaries, the nearest empty cells on either side of home or else the edges.
-#[derive(Clone, Copy)]
+#[derive(Clone, Copy, PartialEq, Eq, Debug)]
 pub enum Stage {
     /// No entry.
     Idle,
@@ -109,15 +138,28 @@ pub enum Stage {
 }
 
 /// A station's record: the key being entered and its stage. An idle station keeps its last key.
-#[derive(Clone, Copy)]
+#[derive(Clone, Copy, PartialEq, Eq, Debug)]
 pub struct Station<K> {
     pub key: K,
     pub stage: Stage,
     pub withdrawn: bool,
 }
 
+impl<K: Key> Station<K> {
+    /// The record of an idle station, with this last key.
+    pub fn idle(key: K) -> Station<K>
+        ensures { result ≡ idled (fresh key) }
+    {
+        Station {
+            key,
+            stage: Stage::Idle,
+            withdrawn: false,
+        }
+    }
+}
+
 /// What one step does to the cells: to one cell at most. A write keeps the cell's mark.
-#[derive(Clone, Copy)]
+#[derive(Clone, Copy, PartialEq, Eq, Debug)]
 pub enum Act<K> {
     Rest,
     Mark { place: usize },
@@ -126,7 +168,7 @@ pub enum Act<K> {
 }
 
 /// What look and check find at a place: the key itself, the end of their walk, or the place to go on to.
-#[derive(Clone, Copy)]
+#[derive(Clone, Copy, PartialEq, Eq, Debug)]
 pub enum Walk {
     Here,
     Ended,
@@ -141,6 +183,18 @@ pub enum Progress {
     Idle,
 }
 
+impl fmt::Display for Progress {
+    ghost output = { λ a. Some (progress_text a) };
+
+    fn fmt<W: fmt::Write>(&self, f: &mut fmt::Formatter<W>) -> fmt::Result {
+        f.write_str(match self {
+            Progress::GoesOn => "GOES ON",
+            Progress::Answered => "ANSWERED",
+            Progress::Idle => "IDLE",
+        })
+    }
+}
+
 /// What an accepted withdrawal says.
 #[derive(Clone, Copy, PartialEq, Eq, Debug)]
 pub enum Departure {
@@ -150,25 +204,36 @@ pub enum Departure {
     GoesOn,
 }
 
+impl fmt::Display for Departure {
+    ghost output = { λ a. Some (departure_text a) };
+
+    fn fmt<W: fmt::Write>(&self, f: &mut fmt::Formatter<W>) -> fmt::Result {
+        f.write_str(match self {
+            Departure::Gone => "GONE",
+            Departure::GoesOn => "GOES ON",
+        })
+    }
+}
+
 /// Why a call of the register is turned down.
 #[derive(Clone, Copy, PartialEq, Eq, Debug)]
 pub enum Refusal {
     /// The register has no cells or more than 65,536.
-    WrongSize,
+    WrongSize = 1,
     /// The slip has another register's number.
-    OtherRegister,
+    OtherRegister = 2,
     /// There are no stations or more than 64, or the number is not among them.
-    NoStation,
+    NoStation = 3,
     /// Beginning: the station is not idle.
-    NotIdle,
+    NotIdle = 4,
     /// Stepping: the station is idle or answered. Collecting, withdrawing: it is idle or already withdrawn.
-    NoEntry,
+    NoEntry = 5,
     /// Stepping: the record names a cell that is not below N.
-    NoCell,
+    NoCell = 6,
     /// Collecting: the entry is not answered yet.
-    NotAnswered,
+    NotAnswered = 7,
     /// Whole entry: a mark bars it.
-    Barred,
+    Barred = 8,
 }
 
 impl Refusal {
@@ -176,18 +241,19 @@ impl Refusal {
     pub const fn number(self) -> u8
         ensures { result ≡ number_of self }
     {
-        match self {
-            Refusal::WrongSize => 1,
-            Refusal::OtherRegister => 2,
-            Refusal::NoStation => 3,
-            Refusal::NotIdle => 4,
-            Refusal::NoEntry => 5,
-            Refusal::NoCell => 6,
-            Refusal::NotAnswered => 7,
-            Refusal::Barred => 8,
-        }
+        self as u8
     }
 }
+
+impl fmt::Display for Refusal {
+    ghost output = { λ e. Some (refusal_text e) };
+
+    fn fmt<W: fmt::Write>(&self, f: &mut fmt::Formatter<W>) -> fmt::Result {
+        write!(f, "REFUSED {}", self.number())
+    }
+}
+
+impl Error for Refusal {}
 
 /// The safety of the protocol, for this kind of key: whatever was in memory before the opening, and whatever turns follow it,
 /// no key is new twice, marks are held as they should be, and all answers are those of one worker alone.
