@@ -1,10 +1,13 @@
 -- The lines of a text.
-use Rattle.std.specs.Prelude.{ℕ, zero, suc, ◌+◌, ◌-◌, cond, ◌&&◌, List, [], ◌∷◌, length, take, drop, ◌==◌, nat_lt, slice_index}
+use Rattle.std.specs.Prelude.{◌≡◌, ℕ, zero, suc, ◌+◌, ◌-◌, cond, ◌&&◌, List, [], ◌∷◌, length, take, drop, ◌==◌, nat_lt, slice_index, Option}
+use Rattle.std.specs.List.{position_or_len}
+use Rattle.std.specs.Iterator.{YieldsFirstRef}
+use denote.Ref.{Bor}
+use Rattle.text.specs.declared.Lines.{Lines}
 
 -- how many bytes come before the first that is this one
 abbrev pub end_at : ℕ → List ℕ → ℕ
-end_at stop [] = 0
-end_at stop (b ∷ bs) = cond (b == stop) 0 (suc (end_at stop bs))
+end_at stop bs = position_or_len (λ b. b == stop) bs
 
 -- a line ends at 0A, and a 0D directly before it belongs to the line's end
 abbrev pub line_length : List ℕ → ℕ
@@ -29,3 +32,11 @@ unfoldable pub unread : ℕ → List ℕ → List ℕ
 unread zero bs = bs
 unread (suc n) [] = []
 unread (suc n) (b ∷ bs) = unread n (after_line (b ∷ bs))
+
+-- all lines: each takes a byte or more
+abbrev pub lines_of : List ℕ → List (List ℕ)
+lines_of bs = lines (length bs) bs
+
+-- a line is taken from those that are left, with its end
+abbrev pub TakesLine : Lines → Option (Bor (List ℕ)) → Lines → Type 0
+TakesLine s line t = YieldsFirstRef (λ (x : Lines). lines_of x.rest.now) s line t × (t.rest.now ≡ after_line s.rest.now)

@@ -1,22 +1,28 @@
 //! Text as bytes: its lines, its words and its numbers.
 #![tactic(auto)]
 
-ghost use Rattle.std.specs.Prelude.{◌≡◌, ◌≤◌, length};
+ghost use Rattle.std.specs.Prelude.{◌≡◌, ◌+◌, length, take, drop, position, ◌==◌};
+ghost use Rattle.std.specs.Iterator.{at_most};
 ghost use Rattle.std.specs.Str.{bytes_eq};
-ghost use Rattle.text.specs.Lines.{end_at, first_line, after_line};
+ghost use Rattle.text.specs.Lines.{end_at, first_line, after_line, TakesLine};
 ghost use Rattle.text.specs.Words.{first_word, after_word, numeral};
 
-// How many bytes come before the first `stop`.
-fn before(bytes: &[u8], stop: u8) -> usize
-    ensures value { result ≡ end_at stop bytes.now }
-    ensures bound { result ≤ length bytes.now }
+// The place of the first `stop`.
+fn place_of(bytes: &[u8], stop: u8) -> Option<usize>
+    ensures { result ≡ position (λ b. b == stop) bytes.now }
 {
-    for (i, b) in bytes.iter().enumerate() {
-        if *b == stop {
-            return i;
-        }
+    bytes.iter().position(|b| *b == stop)
+}
+
+// The bytes before the first `stop`, and the bytes after it.
+fn parted(bytes: &[u8], stop: u8) -> (&[u8], &[u8])
+    ensures first { result.0.now ≡ take (end_at stop bytes.now) bytes.now }
+    ensures rest { result.1.now ≡ drop (end_at stop bytes.now + 1) bytes.now }
+{
+    match place_of(bytes, stop) {
+        Some(end) => (&bytes[..end], &bytes[end + 1..]),
+        None => (bytes, &[]),
     }
-    bytes.len()
 }
 
 /// The first line without its end, and the bytes that follow its end.
@@ -26,15 +32,51 @@ pub fn first_line(bytes: &[u8]) -> (&[u8], &[u8])
     ensures line { result.0.now ≡ first_line bytes.now }
     ensures rest { result.1.now ≡ after_line bytes.now }
 {
-    let end = before(bytes, 0x0a);
-    if end == bytes.len() {
-        return (bytes, &[]);
+    let (line, rest) = parted(bytes, b'\n');
+    if line.len() == bytes.len() {
+        return (line, rest);
     }
-    let rest = &bytes[end + 1..];
-    if end > 0 && bytes[end - 1] == 0x0d {
-        return (&bytes[0..end - 1], rest);
+    (line.strip_suffix(b"\r").unwrap_or(line), rest)
+}
+
+/// The lines of some bytes, each without its end.
+#[derive(Clone, Copy, Debug)]
+pub struct Lines<'a> {
+    rest: &'a [u8],
+}
+
+impl<'a> Lines<'a> {
+    /// The lines of these bytes.
+    pub fn of(bytes: &'a [u8]) -> Lines<'a>
+        ensures { result.rest.now ≡ bytes.now }
+    {
+        Lines { rest: bytes }
     }
-    (&bytes[0..end], rest)
+
+    /// The bytes after the lines that were taken.
+    pub fn rest(&self) -> &'a [u8]
+        ensures { result.now ≡ self.now.rest.now }
+    {
+        self.rest
+    }
+}
+
+impl<'a> Iterator for Lines<'a> {
+    type Item = &'a [u8];
+
+    ghost next_gives = { TakesLine };
+
+    ghost remaining = { λ s. at_most (length s.rest.now) };
+
+    fn next(&mut self) -> Option<&'a [u8]> {
+        let Lines { rest: left } = *self;
+        if left.is_empty() {
+            return None;
+        }
+        let (line, rest) = first_line(left);
+        *self = Lines { rest };
+        Some(line)
+    }
 }
 
 /// The first word of a line, up to its first space, and what follows that space.
@@ -42,11 +84,7 @@ pub fn first_word(line: &[u8]) -> (&[u8], &[u8])
     ensures word { result.0.now ≡ first_word line.now }
     ensures rest { result.1.now ≡ after_word line.now }
 {
-    let end = before(line, 0x20);
-    if end == line.len() {
-        return (line, &[]);
-    }
-    (&line[0..end], &line[end + 1..])
+    parted(line, b' ')
 }
 
 /// Whether a word is this text.
@@ -65,7 +103,7 @@ pub fn number(word: &[u8]) -> Option<u32>
     }
     let mut n = 0;
     for b in word {
-        if *b < b'0' || *b > b'9' {
+        if !b.is_ascii_digit() {
             return None;
         }
         n = n * 10 + u32::from(*b - b'0');
