@@ -1,4 +1,2 @@
-pub mod Ends
 pub mod Seens
 pub mod Loops
-pub mod Counts

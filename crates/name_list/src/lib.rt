@@ -2,14 +2,16 @@
 #![tactic(auto)]
 
 ghost use Rattle.std.specs.Prelude.{◌≡◌, ℕ, ◌+◌, ◌<◌, ◌≤◌, List, ◌++◌, length, IfOk, Some, string_bytes, codes, decimal};
+ghost use Rattle.text.specs.Lines.{unread};
 ghost use Rattle.names.specs.Reading.{reading};
 ghost use Rattle.name_list.specs.Seen.{Lawful, Noted};
-ghost use Rattle.name_list.specs.Lists.{first_line, after_line, end_at, unread, answers_to, tally_of, written, tallied};
+ghost use Rattle.name_list.specs.Lists.{is_new, is_refused, answers_to, tally_of, written, tallied};
 
 use names::{Fault, Name, read};
 use std::alloc::{AllocError, Global};
 use std::collections::BTreeMap;
 use std::fmt;
+use text::Lines;
 
 /// What a line of a list of names is answered.
 #[derive(Clone, Copy, PartialEq, Eq, Debug)]
@@ -20,6 +22,20 @@ pub enum Answer {
     Same(usize),
     /// The line is no name.
     Refused(Fault),
+}
+
+impl Answer {
+    fn is_new(&self) -> bool
+        ensures { result ≡ is_new self.now }
+    {
+        matches!(self, Answer::New)
+    }
+
+    fn is_refused(&self) -> bool
+        ensures { result ≡ is_refused self.now }
+    {
+        matches!(self, Answer::Refused(_))
+    }
 }
 
 impl fmt::Display for Answer {
@@ -36,35 +52,6 @@ impl fmt::Display for Answer {
             }
         }
     }
-}
-
-// How many bytes come before the first 0A.
-fn end_at(bytes: &[u8]) -> usize
-    ensures value { result ≡ end_at bytes.now }
-    ensures bound { result ≤ length bytes.now }
-{
-    for (i, b) in bytes.iter().enumerate() {
-        if *b == 0x0a {
-            return i;
-        }
-    }
-    bytes.len()
-}
-
-// The first line without its end, and the bytes that follow its end.
-fn first_line(bytes: &[u8]) -> (&[u8], &[u8])
-    ensures line { result.0.now ≡ first_line bytes.now }
-    ensures rest { result.1.now ≡ after_line bytes.now }
-{
-    let end = end_at(bytes);
-    if end == bytes.len() {
-        return (bytes, &[]);
-    }
-    let rest = &bytes[end + 1..];
-    if end > 0 && bytes[end - 1] == 0x0d {
-        return (&bytes[0..end - 1], rest);
-    }
-    (&bytes[0..end], rest)
 }
 
 // The answer to the n-th line, by the line where each name first came, and that map after it.
@@ -101,17 +88,16 @@ pub fn answer_lines(heap: Global, bytes: &[u8]) -> Result<Report<'_>, AllocError
 {
     let mut first = BTreeMap::new(heap);
     let mut answers = Vec::new(heap);
-    let mut rest = bytes;
-    while rest.len() > 0 && answers.len() < MOST_LINES {
-        let (line, tail) = first_line(rest);
-        let n = answers.len() + 1;
-        let answer = note(&mut first, n, line)?;
-        answers.push(answer)?;
-        rest = tail;
+    let mut lines = Lines::of(bytes);
+    for n in 1..=MOST_LINES {
+        let Some(line) = lines.next() else {
+            break;
+        };
+        answers.push(note(&mut first, n, line)?)?;
     }
     Ok(Report {
         answers,
-        unread: rest,
+        unread: lines.rest(),
     })
 }
 
@@ -127,9 +113,11 @@ impl fmt::Display for Tally {
     ghost output = { λ t. Some (tallied t) };
 
     fn fmt<W: fmt::Write>(&self, f: &mut fmt::Formatter<W>) -> fmt::Result {
-        let lines = self.lines;
-        let names = self.names;
-        let refusals = self.refusals;
+        let Tally {
+            lines,
+            names,
+            refusals,
+        } = *self;
         write!(f, "{lines} lines, {names} names, {refusals} refusals")
     }
 }
@@ -139,19 +127,10 @@ impl Tally {
     pub fn of(answers: &[Answer]) -> Tally
         ensures { result ≡ tally_of answers.now }
     {
-        let mut names = 0;
-        let mut refusals = 0;
-        for answer in answers {
-            match *answer {
-                Answer::New => names += 1,
-                Answer::Same(_) => {}
-                Answer::Refused(_) => refusals += 1,
-            }
-        }
         Tally {
             lines: answers.len(),
-            names,
-            refusals,
+            names: answers.iter().filter(|answer| answer.is_new()).count(),
+            refusals: answers.iter().filter(|answer| answer.is_refused()).count(),
         }
     }
 }

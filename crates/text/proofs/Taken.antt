@@ -29,3 +29,14 @@ taken [] line rest h e f = absurd (omega arith)
 taken (b ∷ bs) line rest h e f =
     let s = shorter b bs in
     rw (e, f) (ap (λ (ls : List (List ℕ)). first_line (b ∷ bs) ∷ ls) (enough (length bs) (length (after_line (b ∷ bs))) (after_line (b ∷ bs)) (omega arith) (omega arith)), refl)
+
+-- what a line that is taken says of the bytes before it, and what no line says
+pub line_taken : (bs line : List ℕ) (ls : List (List ℕ)) → lines_of bs ≡ line ∷ ls → (0 < length bs) × (line ≡ first_line bs)
+unfolding lines
+line_taken [] line ls e = cc
+line_taken (b ∷ bs) line ls e = (omega arith, cc)
+
+pub no_line : (bs : List ℕ) → lines_of bs ≡ [] → (length bs ≤ 0) × (after_line bs ≡ bs)
+unfolding lines
+no_line [] e = (omega arith, refl)
+no_line (b ∷ bs) e = cc
