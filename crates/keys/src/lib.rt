@@ -1,7 +1,7 @@
 //! Kinds of key: what every key of the register can do, and two kinds, type numbers and trays.
 #![tactic(auto)]
 
-ghost use Rattle.std.specs.Prelude.{◌≡◌, ℕ, ◌<◌, Some};
+ghost use Rattle.std.specs.Prelude.{◌≡◌, ℕ, ◌<◌, Some, decimal};
 ghost use Rattle.std.specs.declared.cmp.Ordering.{Ordering};
 ghost use Rattle.keys.specs.Laws.{Laws};
 ghost use Rattle.keys.specs.Kinds.{by_size, share, type_order, type_home, tray_order, tray_home, tray_of, refusal_number, refusal_text};
@@ -111,6 +111,14 @@ impl Tray {
     {
         let Tray { number } = self;
         number
+    }
+}
+
+impl fmt::Display for Tray {
+    ghost output = { λ k. Some (decimal k.number) };
+
+    fn fmt<W: fmt::Write>(&self, f: &mut fmt::Formatter<W>) -> fmt::Result {
+        write!(f, "{}", self.number())
     }
 }
 

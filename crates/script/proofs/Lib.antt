@@ -1,4 +1,3 @@
 pub mod Spendable
 pub mod Rows
 pub mod Runs
-pub mod Tallied

@@ -12,10 +12,10 @@ spaced_push (d ∷ cs) c =
     ∙ ap (λ (x : List ℕ). codes " " ++ x) (sym (append_assoc (cell_text d) (spaced cs) (codes " " ++ cell_text c)))
 
 -- one more cell
-pub row_more : (cs : List (Cell Tray)) (i : ℕ) (text word part text' : List ℕ) (c : Cell Tray) → i < length cs → text ≡ codes "cells:" ++ spaced (take i cs)
-    → word ≡ codes " " ++ cell_text (get_or cs i c) → part ≡ word → text' ≡ text ++ part → text' ≡ codes "cells:" ++ spaced (take (i + 1) cs)
-row_more cs i text word part text' c h t w p q =
-    q ∙ ap (λ (x : List ℕ). text ++ x) (p ∙ w) ∙ ap (λ (x : List ℕ). x ++ (codes " " ++ cell_text (get_or cs i c))) t
+pub row_more : (cs : List (Cell Tray)) (i : ℕ) (text text' : List ℕ) (c : Cell Tray) → i < length cs → text ≡ codes "cells:" ++ spaced (take i cs)
+    → text' ≡ text ++ (codes " " ++ cell_text (get_or cs i c)) → text' ≡ codes "cells:" ++ spaced (take (i + 1) cs)
+row_more cs i text text' c h t q =
+    q ∙ ap (λ (x : List ℕ). x ++ (codes " " ++ cell_text (get_or cs i c))) t
     ∙ append_assoc (codes "cells:") (spaced (take i cs)) (codes " " ++ cell_text (get_or cs i c))
     ∙ ap (λ (x : List ℕ). codes "cells:" ++ x) (sym (spaced_push (take i cs) (get_or cs i c)))
     ∙ ap (λ (x : List (Cell Tray)). codes "cells:" ++ spaced x) (sym (take_more cs i c h))

@@ -1,5 +1,5 @@
 -- Every slip in hand can be spent: each order keeps that so.
-use Rattle.std.proofs.Common.{◌≡◌, ℕ, zero, suc, ◌+◌, ◌<◌, Bool, true, false, ◌&&◌, eqb, ◌≢◌, ◌⊎◌, List, [], ◌∷◌, length, get_or, set, Some, None, Ok, Err, Option, Result, sym, refl, ap, ◌∙◌, subst, inl, inr, arith, length-set, get_or-set_other, set-set}
+use Rattle.std.proofs.Common.{◌≡◌, ℕ, zero, suc, ◌+◌, ◌<◌, ◌≤◌, Bool, true, false, ◌&&◌, eqb, ◌≢◌, ◌⊎◌, List, [], ◌∷◌, length, get_or, set, Some, None, Ok, Err, Option, Result, sym, refl, ap, ◌∙◌, subst, inl, inr, arith, length-set, get_or-set_other, set-set}
 use lib.Seq.{set-get_or}
 use Rattle.std.proofs.lemmas.Bool.Decides.{nat_tests}
 use Rattle.std.proofs.lemmas.Bool.{cases_eq}
@@ -255,31 +255,36 @@ module _ (w w' : World Tray) (slips slips' : List (Option Slip)) (s : ℕ) (r : 
   pub spent_count : counted r ≡ one_if (get_or slips s None)
   spent_count = ap (λ (a : After). counted a.2) q ∙ (spent w slips s h).1
 
--- Four places, emptied one after the other.
-module _ (a b c d e : List (Option Slip)) (four : length a ≡ 4)
-    (p : b ≡ set a 0 None) (q : c ≡ set b 1 None) (r : d ≡ set c 2 None) (s : e ≡ set d 3 None) where
-  all : (xs ys : List (Option Slip)) → length xs ≡ 4 → ys ≡ set (set (set (set xs 0 None) 1 None) 2 None) 3 None → slips_left ys ≡ 0
-  all (w ∷ x ∷ y ∷ z ∷ []) ys l is = ap slips_left is
-  all [] ys l is = absurd (omega arith)
-  all (w ∷ []) ys l is = absurd (omega arith)
-  all (w ∷ x ∷ []) ys l is = absurd (omega arith)
-  all (w ∷ x ∷ y ∷ []) ys l is = absurd (omega arith)
-  all (w ∷ x ∷ y ∷ z ∷ v ∷ vs) ys l is = absurd (omega arith)
+-- The places emptied one after the other: the slips below i are spent, and so many they were.
+pub record Settling (slips₀ slips : List (Option Slip)) (i left : ℕ) : Type 0 where
+  pub sum : left + slips_left slips ≡ slips_left slips₀
+  pub below : (k : ℕ) → k < i → get_or slips k None ≡ None
+  pub most : left ≤ i
 
-  pub none_left : slips_left e ≡ 0
-  none_left = all a e four cc
+one_fewer : (slips : List (Option Slip)) (i : ℕ) → one_if (get_or slips i None) + slips_left (set slips i None) ≡ slips_left slips
+one_fewer [] i = refl
+one_fewer (o ∷ os) zero = omega arith
+one_fewer (o ∷ os) (suc i) = let e = one_fewer os i in omega arith
 
-  counts : (xs : List (Option Slip)) → length xs ≡ 4
-      → one_if (get_or xs 0 None) + one_if (get_or (set xs 0 None) 1 None) + one_if (get_or (set (set xs 0 None) 1 None) 2 None) + one_if (get_or (set (set (set xs 0 None) 1 None) 2 None) 3 None) ≡ slips_left xs
-  counts (w ∷ x ∷ y ∷ z ∷ []) l = omega arith
-  counts [] l = absurd (omega arith)
-  counts (w ∷ []) l = absurd (omega arith)
-  counts (w ∷ x ∷ []) l = absurd (omega arith)
-  counts (w ∷ x ∷ y ∷ []) l = absurd (omega arith)
-  counts (w ∷ x ∷ y ∷ z ∷ v ∷ vs) l = absurd (omega arith)
+pub settling : (slips₀ slips slips' : List (Option Slip)) (i left n : ℕ) → Settling slips₀ slips i left → n ≡ one_if (get_or slips i None) → n ≤ 1 → slips' ≡ set slips i None → Settling slips₀ slips' (i + 1) (left + n)
+settling slips₀ slips slips' i left n g e l is = record {
+  sum = omega (arith, g.sum, e, one_fewer slips i, ap slips_left is);
+  below = λ k h. ap (λ (v : List (Option Slip)). get_or v k None) is ∙ at k h (cases_eq i k);
+  most = omega (arith, g.most);
+}
+  where
+    at : (k : ℕ) → k < i + 1 → (i ≡ k) ⊎ (i ≢ k) → get_or (set slips i None) k None ≡ None
+    at k h (inl q) = subst (λ j. get_or (set slips i None) j None ≡ None) q (emptied slips i)
+    at k h (inr n) = get_or-set_other slips i k None None (λ q. n (sym q)) ∙ g.below k (omega arith)
 
-  pub all_counted : one_if (get_or a 0 None) + one_if (get_or b 1 None) + one_if (get_or c 2 None) + one_if (get_or d 3 None) ≡ slips_left a
-  all_counted = rw (r, q, p) (counts a four)
+no_slips : (slips : List (Option Slip)) → ((k : ℕ) → k < length slips → get_or slips k None ≡ None) → slips_left slips ≡ 0
+no_slips [] h = refl
+no_slips (o ∷ os) h = omega (arith, ap one_if (h 0 (omega arith)), no_slips os (λ k l. h (suc k) (omega arith)))
+
+pub settled : (slips₀ slips : List (Option Slip)) (i left : ℕ) → Settling slips₀ slips i left → length slips ≤ i → (left ≡ slips_left slips₀) × (slips_left slips ≡ 0)
+settled slips₀ slips i left g h =
+    let none = no_slips slips (λ k l. g.below k (omega arith)) in
+    (omega (arith, g.sum, none), none)
 
 -- where none is left, none is at any place
 pub none_at : (slips : List (Option Slip)) (s : ℕ) → slips_left slips ≡ 0 → get_or slips s None ≡ None

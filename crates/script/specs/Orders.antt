@@ -3,7 +3,7 @@ use Rattle.std.specs.Prelude.{ℕ, cond, List, [], ◌∷◌, ◌++◌, length, 
 use Rattle.std.specs.Str.{bytes_eq}
 use Rattle.keys.specs.declared.Tray.{Tray}
 use Rattle.keys.specs.declared.AboveLimit.{AboveLimit}
-use Rattle.keys.specs.Kinds.{tray_of}
+use Rattle.keys.specs.Kinds.{tray_of, refusal_text}
 use Rattle.text.specs.Words.{first_word, after_word, numeral}
 use Rattle.script.specs.declared.orders.Order.{Order}
 use Rattle.script.specs.declared.orders.Order.TheVariants as order
@@ -20,6 +20,11 @@ order_text (order.Collect s) = codes "collect " ++ decimal s
 order_text (order.Withdraw s) = codes "withdraw " ++ decimal s
 order_text (order.Enter k) = codes "enter " ++ decimal k.number
 order_text order.Show = codes "show"
+
+-- why a line is no order, as it is printed
+abbrev pub fault_text : Fault → List ℕ
+fault_text Malformed = codes "MALFORMED"
+fault_text (NoTray e) = refusal_text e
 
 -- the first word of an order
 abbrev pub verb_of : List ℕ → Option Verb

@@ -1,10 +1,10 @@
 -- What a script comes to, line by line.
-use Rattle.std.specs.Prelude.{ℕ, ◌+◌, List, [], ◌∷◌, ◌++◌, length, replicate, Some, None, Ok, Err, codes, decimal, Option, Result}
+use Rattle.std.specs.Prelude.{ℕ, ◌+◌, List, [], ◌∷◌, ◌++◌, replicate, Some, None, Ok, Err, codes, decimal, Option, Result}
 use Rattle.keys.specs.declared.Tray.{Tray}
 use Rattle.protocol.specs.declared.Cell.{Cell}
 use Rattle.protocol.specs.Calls.{World, opening}
 use Rattle.register.specs.declared.Slip.{Slip}
-use Rattle.text.specs.Lines.{lines}
+use Rattle.text.specs.Lines.{lines_of}
 use Rattle.script.specs.declared.orders.Order.{Order}
 use Rattle.script.specs.declared.orders.Order.TheVariants as order
 use Rattle.script.specs.declared.orders.Fault.{Fault}
@@ -63,4 +63,4 @@ played w slips n (l ∷ ls) =
 
 -- a whole script, over a register of these cells with four stations
 abbrev pub from_opening : ℕ → List (Cell Tray) → Tray → List ℕ → Played
-from_opening number cells filler script = played (opening number cells (replicate 4 (at_rest filler)) filler) (replicate 4 None) 1 (lines (length script) script)
+from_opening number cells filler script = played (opening number cells (replicate 4 (at_rest filler)) filler) (replicate 4 None) 1 (lines_of script)

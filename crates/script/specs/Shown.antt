@@ -1,13 +1,9 @@
 -- What is printed of cells and replies.
 use Rattle.std.specs.Prelude.{ℕ, Bool, true, false, List, [], ◌∷◌, ◌++◌, codes, decimal}
 use Rattle.keys.specs.declared.Tray.{Tray}
-use Rattle.keys.specs.Kinds.{refusal_number}
-use Rattle.protocol.specs.declared.Answer.TheVariants.{Inserted, Found, Full}
 use Rattle.protocol.specs.declared.Cell.{Cell}
-use Rattle.protocol.specs.declared.Departure.TheVariants as departure
-use Rattle.protocol.specs.declared.Progress.TheVariants as progress
-use Rattle.protocol.specs.Refusals.{number_of}
-use Rattle.script.specs.declared.orders.Fault.TheVariants.{Malformed, NoTray}
+use Rattle.protocol.specs.Texts.{answer_text, progress_text, departure_text, refusal_text}
+use Rattle.script.specs.Orders.{fault_text}
 use Rattle.script.specs.declared.replies.Reply.{Reply}
 use Rattle.script.specs.declared.replies.Reply.TheVariants.{Begun, Stepped, Told, Withdrawn, Refused, NoSlip, Shown, Nothing, Faulty}
 
@@ -34,17 +30,11 @@ row_text cs = codes "cells:" ++ spaced cs
 -- what a line is answered
 abbrev pub reply_text : Reply → List ℕ
 reply_text Begun = codes "BEGUN"
-reply_text (Stepped progress.GoesOn) = codes "GOES ON"
-reply_text (Stepped progress.Answered) = codes "ANSWERED"
-reply_text (Stepped progress.Idle) = codes "IDLE"
-reply_text (Told Inserted) = codes "INSERTED"
-reply_text (Told Found) = codes "FOUND"
-reply_text (Told Full) = codes "FULL"
-reply_text (Withdrawn departure.Gone) = codes "GONE"
-reply_text (Withdrawn departure.GoesOn) = codes "GOES ON"
-reply_text (Refused e) = codes "REFUSED " ++ decimal (number_of e)
+reply_text (Stepped p) = progress_text p
+reply_text (Told a) = answer_text a
+reply_text (Withdrawn d) = departure_text d
+reply_text (Refused e) = refusal_text e
 reply_text NoSlip = codes "NO SLIP"
 reply_text Shown = codes "SHOWN"
 reply_text Nothing = codes "NOTHING"
-reply_text (Faulty Malformed) = codes "MALFORMED"
-reply_text (Faulty (NoTray e)) = codes "REFUSED " ++ decimal (refusal_number e)
+reply_text (Faulty f) = fault_text f

@@ -1,42 +1,69 @@
 -- The replies of a script, counted.
-use Rattle.std.specs.Prelude.{ℕ, ◌+◌, List, [], ◌∷◌, ◌++◌, codes, decimal}
+use Rattle.std.specs.Prelude.{ℕ, Bool, true, false, List, ◌++◌, count_by, codes, decimal}
+use Rattle.protocol.specs.declared.Answer.{Answer}
 use Rattle.protocol.specs.declared.Answer.TheVariants.{Inserted, Found, Full}
 use Rattle.script.specs.declared.orders.Fault.TheVariants.{Malformed, NoTray}
 use Rattle.script.specs.declared.replies.Reply.{Reply}
 use Rattle.script.specs.declared.replies.Reply.TheVariants.{Begun, Stepped, Told, Withdrawn, Refused, NoSlip, Shown, Nothing, Faulty}
 use Rattle.script.specs.declared.tallies.Tally.{Tally}
 
-abbrev pub counts : ℕ → ℕ → ℕ → ℕ → ℕ → Tally
-counts i f u r m = record { inserted = i; found = f; full = u; refused = r; malformed = m }
+-- a collection or a whole entry gives this answer
+abbrev pub same_answer : Answer → Answer → Bool
+same_answer Inserted Inserted = true
+same_answer Found Found = true
+same_answer Full Full = true
+same_answer Inserted Found = false
+same_answer Inserted Full = false
+same_answer Found Inserted = false
+same_answer Found Full = false
+same_answer Full Inserted = false
+same_answer Full Found = false
 
--- one reply: a collection or a whole entry gives an answer, an order or its tray is refused, a line is malformed
-abbrev pub one : Reply → Tally
-one (Told Inserted) = counts 1 0 0 0 0
-one (Told Found) = counts 0 1 0 0 0
-one (Told Full) = counts 0 0 1 0 0
-one (Refused e) = counts 0 0 0 1 0
-one (Faulty (NoTray e)) = counts 0 0 0 1 0
-one (Faulty Malformed) = counts 0 0 0 0 1
-one Begun = counts 0 0 0 0 0
-one (Stepped p) = counts 0 0 0 0 0
-one (Withdrawn d) = counts 0 0 0 0 0
-one NoSlip = counts 0 0 0 0 0
-one Shown = counts 0 0 0 0 0
-one Nothing = counts 0 0 0 0 0
+abbrev pub tells : Answer → Reply → Bool
+tells a (Told b) = same_answer a b
+tells a (Refused e) = false
+tells a (Faulty f) = false
+tells a Begun = false
+tells a (Stepped p) = false
+tells a (Withdrawn d) = false
+tells a NoSlip = false
+tells a Shown = false
+tells a Nothing = false
 
-abbrev pub plus : Tally → Tally → Tally
-plus a b = counts (a.inserted + b.inserted) (a.found + b.found) (a.full + b.full) (a.refused + b.refused) (a.malformed + b.malformed)
+-- an order or its tray is refused
+abbrev pub is_refusal : Reply → Bool
+is_refusal (Refused e) = true
+is_refusal (Faulty (NoTray e)) = true
+is_refusal (Faulty Malformed) = false
+is_refusal (Told a) = false
+is_refusal Begun = false
+is_refusal (Stepped p) = false
+is_refusal (Withdrawn d) = false
+is_refusal NoSlip = false
+is_refusal Shown = false
+is_refusal Nothing = false
 
-abbrev pub total : Tally → ℕ
-total t = t.inserted + t.found + t.full + t.refused + t.malformed
-
--- the replies, after those that t counts
-abbrev pub tally_from : Tally → List Reply → Tally
-tally_from t [] = t
-tally_from t (r ∷ rs) = tally_from (plus t (one r)) rs
+-- the line is no order
+abbrev pub is_malformed : Reply → Bool
+is_malformed (Faulty Malformed) = true
+is_malformed (Faulty (NoTray e)) = false
+is_malformed (Refused e) = false
+is_malformed (Told a) = false
+is_malformed Begun = false
+is_malformed (Stepped p) = false
+is_malformed (Withdrawn d) = false
+is_malformed NoSlip = false
+is_malformed Shown = false
+is_malformed Nothing = false
 
 abbrev pub tally_of : List Reply → Tally
-tally_of rs = tally_from (counts 0 0 0 0 0) rs
+tally_of rs = record {
+  inserted = count_by (tells Inserted) rs;
+  found = count_by (tells Found) rs;
+  full = count_by (tells Full) rs;
+  refused = count_by is_refusal rs;
+  malformed = count_by is_malformed rs;
+}
 
 abbrev pub tally_text : Tally → List ℕ
 tally_text t =

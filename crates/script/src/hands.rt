@@ -9,6 +9,7 @@ pub fn pick(slips: &mut [Option<Slip>], station: usize) -> Option<Slip>
     ensures value { result ≡ slice_index_or slips.old station None }
     ensures after { slips.new ≡ slice_set slips.old station None }
 {
+    // Tried: `slips.get_mut(station)?.take()`. After it nothing is known of the slips, so the proof does not close.
     if station < slips.len() {
         slips[station].take()
     } else {

@@ -1,11 +1,12 @@
 //! The lines of a script.
 ghost use Rattle.std.specs.Prelude.{◌≡◌, Some};
 ghost use Rattle.script.specs.declared.orders.Fault.TheVariants.{NoTray};
-ghost use Rattle.script.specs.Orders.{order_text, verb_of, station_in, tray_in, begin_in, order_by, line_in};
+ghost use Rattle.script.specs.Orders.{order_text, fault_text, verb_of, station_in, tray_in, begin_in, order_by, line_in};
 
 use keys::{AboveLimit, Tray};
+use std::error::Error;
 use std::fmt;
-use text::{first_word, is, number};
+use text::{first_word, number};
 
 /// What a line of a script orders. A station is known by its number.
 #[derive(Clone, Copy, PartialEq, Eq, Debug)]
@@ -29,17 +30,11 @@ impl fmt::Display for Order {
 
     fn fmt<W: fmt::Write>(&self, f: &mut fmt::Formatter<W>) -> fmt::Result {
         match *self {
-            Order::Begin { station, tray } => {
-                let key = tray.number();
-                write!(f, "begin {station} {key}")
-            }
+            Order::Begin { station, tray } => write!(f, "begin {station} {tray}"),
             Order::Step { station } => write!(f, "step {station}"),
             Order::Collect { station } => write!(f, "collect {station}"),
             Order::Withdraw { station } => write!(f, "withdraw {station}"),
-            Order::Enter { tray } => {
-                let key = tray.number();
-                write!(f, "enter {key}")
-            }
+            Order::Enter { tray } => write!(f, "enter {tray}"),
             Order::Show => write!(f, "show"),
         }
     }
@@ -53,6 +48,19 @@ pub enum Fault {
     /// Its tray is refused.
     NoTray(AboveLimit),
 }
+
+impl fmt::Display for Fault {
+    ghost output = { λ e. Some (fault_text e) };
+
+    fn fmt<W: fmt::Write>(&self, f: &mut fmt::Formatter<W>) -> fmt::Result {
+        match *self {
+            Fault::Malformed => write!(f, "MALFORMED"),
+            Fault::NoTray(refusal) => write!(f, "{refusal}"),
+        }
+    }
+}
+
+impl Error for Fault {}
 
 impl From<AboveLimit> for Fault {
     ghost from_gives = { λ e r. r ≡ NoTray e };
@@ -76,40 +84,30 @@ enum Verb {
 fn verb_of(word: &[u8]) -> Option<Verb>
     ensures { result ≡ verb_of word.now }
 {
-    if is(word, "begin") {
-        Some(Verb::Begin)
-    } else if is(word, "step") {
-        Some(Verb::Step)
-    } else if is(word, "collect") {
-        Some(Verb::Collect)
-    } else if is(word, "withdraw") {
-        Some(Verb::Withdraw)
-    } else if is(word, "enter") {
-        Some(Verb::Enter)
-    } else if is(word, "show") {
-        Some(Verb::Show)
-    } else {
-        None
+    match word {
+        b"begin" => Some(Verb::Begin),
+        b"step" => Some(Verb::Step),
+        b"collect" => Some(Verb::Collect),
+        b"withdraw" => Some(Verb::Withdraw),
+        b"enter" => Some(Verb::Enter),
+        b"show" => Some(Verb::Show),
+        _ => None,
     }
 }
 
 fn station_in(word: &[u8]) -> Result<usize, Fault>
     ensures { result ≡ station_in word.now }
 {
-    match number(word) {
-        Some(n) => Ok(n as usize),
-        None => Err(Fault::Malformed),
-    }
+    let n = number(word).ok_or(Fault::Malformed)?;
+    Ok(n as usize)
 }
 
 // A number of a tray that is too large for the type is one above the limit too.
 fn tray_in(word: &[u8]) -> Result<Tray, Fault>
     ensures { result ≡ tray_in word.now }
 {
-    match number(word) {
-        Some(n) => Ok(Tray::new(n.min(1000) as u16)?),
-        None => Err(Fault::Malformed),
-    }
+    let n = number(word).ok_or(Fault::Malformed)?;
+    Ok(Tray::new(n.min(1000) as u16)?)
 }
 
 // A station's number and a tray.
@@ -153,8 +151,6 @@ pub fn parse(line: &[u8]) -> Result<Option<Order>, Fault>
         return Ok(None);
     }
     let (word, rest) = first_word(line);
-    match verb_of(word) {
-        Some(verb) => Ok(Some(order_by(verb, rest)?)),
-        None => Err(Fault::Malformed),
-    }
+    let verb = verb_of(word).ok_or(Fault::Malformed)?;
+    Ok(Some(order_by(verb, rest)?))
 }

@@ -1,6 +1,6 @@
 //! A script is played over a register of trays with four stations.
 ghost use Rattle.std.specs.Prelude.{◌≡◌, ℕ, ◌+◌, length, IfOk, string_bytes};
-ghost use Rattle.text.specs.Lines.{lines};
+ghost use Rattle.text.specs.Lines.{lines_of};
 ghost use Rattle.register.specs.Memory.{behind};
 ghost use Rattle.script.specs.Hands.{slips_left};
 ghost use Rattle.script.specs.Plays.{outcome, Outcome, played, Played, from_opening};
@@ -13,7 +13,7 @@ use crate::sessions::Session;
 use keys::Tray;
 use protocol::Cell;
 use std::alloc::{AllocError, Global};
-use text::first_line;
+use text::Lines;
 
 // Carries out the n-th line of a script: its reply, and what is printed of it.
 fn answer(
@@ -47,17 +47,14 @@ fn run(
     heap: Global,
     script: &[u8],
 ) -> Result<(String, Vec<Reply>), AllocError>
-    ensures { IfOk result (λ p. record { memory = behind session.new.register session.new.stations; slips = session.new.slips; replies = p.1.items; text = string_bytes p.0 } ≡ played (behind session.old.register session.old.stations) session.old.slips 1 (lines (length script.now) script.now)) }
+    ensures { IfOk result (λ p. record { memory = behind session.new.register session.new.stations; slips = session.new.slips; replies = p.1.items; text = string_bytes p.0 } ≡ played (behind session.old.register session.old.stations) session.old.slips 1 (lines_of script.now)) }
 {
     let mut text = String::new(heap);
     let mut replies = Vec::new(heap);
-    let mut rest = script;
-    while rest.len() > 0 {
-        let (line, tail) = first_line(rest);
+    for line in Lines::of(script) {
         let (reply, said) = answer(session, heap, replies.len() + 1, line)?;
         text.push_str(said.as_str())?;
         replies.push(reply)?;
-        rest = tail;
     }
     Ok((text, replies))
 }

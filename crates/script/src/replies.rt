@@ -35,26 +35,14 @@ impl fmt::Display for Reply {
     fn fmt<W: fmt::Write>(&self, f: &mut fmt::Formatter<W>) -> fmt::Result {
         match *self {
             Reply::Begun => write!(f, "BEGUN"),
-            Reply::Stepped(Progress::GoesOn) => write!(f, "GOES ON"),
-            Reply::Stepped(Progress::Answered) => write!(f, "ANSWERED"),
-            Reply::Stepped(Progress::Idle) => write!(f, "IDLE"),
-            Reply::Told(Answer::Inserted) => write!(f, "INSERTED"),
-            Reply::Told(Answer::Found) => write!(f, "FOUND"),
-            Reply::Told(Answer::Full) => write!(f, "FULL"),
-            Reply::Withdrawn(Departure::Gone) => write!(f, "GONE"),
-            Reply::Withdrawn(Departure::GoesOn) => write!(f, "GOES ON"),
-            Reply::Refused(refusal) => {
-                let number = refusal.number();
-                write!(f, "REFUSED {number}")
-            }
+            Reply::Stepped(progress) => write!(f, "{progress}"),
+            Reply::Told(answer) => write!(f, "{answer}"),
+            Reply::Withdrawn(departure) => write!(f, "{departure}"),
+            Reply::Refused(refusal) => write!(f, "{refusal}"),
             Reply::NoSlip => write!(f, "NO SLIP"),
             Reply::Shown => write!(f, "SHOWN"),
             Reply::Nothing => write!(f, "NOTHING"),
-            Reply::Faulty(Fault::Malformed) => write!(f, "MALFORMED"),
-            Reply::Faulty(Fault::NoTray(refusal)) => {
-                let number = refusal.number();
-                write!(f, "REFUSED {number}")
-            }
+            Reply::Faulty(fault) => write!(f, "{fault}"),
         }
     }
 }

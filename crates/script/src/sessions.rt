@@ -13,7 +13,7 @@ use crate::orders::Order;
 use crate::replies::Reply;
 use crate::shown::cells_text;
 use keys::Tray;
-use protocol::{Cell, Stage, Station};
+use protocol::{Cell, Station};
 use register::{Refused, Register, Slip, open};
 use std::alloc::{AllocError, Global};
 
@@ -35,11 +35,7 @@ impl<'a> Session<'a> {
         ensures none { result.slips ≡ replicate 4 None }
         ensures safe { SafeFrom tray_order tray_home (behind result.register result.stations) }
     {
-        let mut stations = [Station {
-            key: filler,
-            stage: Stage::Idle,
-            withdrawn: false,
-        }; 4];
+        let mut stations = [Station::idle(filler); 4];
         let register = open(cells, &mut stations, number, filler);
         Session {
             register,
@@ -90,19 +86,17 @@ impl<'a> Session<'a> {
     fn step(&mut self, station: usize) -> Reply
         ensures { (behind self.new.register self.new.stations, self.new.slips, result) ≡ stepped (behind self.old.register self.old.stations) self.old.slips station }
     {
-        match self.register.step(&mut self.stations, station) {
-            Ok(progress) => Reply::Stepped(progress),
-            Err(refusal) => Reply::Refused(refusal),
-        }
+        self.register
+            .step(&mut self.stations, station)
+            .map_or_else(Reply::Refused, Reply::Stepped)
     }
 
     fn enter(&mut self, tray: Tray) -> Reply
         ensures { (behind self.new.register self.new.stations, self.new.slips, result) ≡ entered (behind self.old.register self.old.stations) self.old.slips tray }
     {
-        match self.register.enter(tray) {
-            Ok(answer) => Reply::Told(answer),
-            Err(refusal) => Reply::Refused(refusal),
-        }
+        self.register
+            .enter(tray)
+            .map_or_else(Reply::Refused, Reply::Told)
     }
 
     /// Carries out an order.
@@ -143,6 +137,10 @@ impl<'a> Session<'a> {
         ensures count { result ≡ slips_left self.old.slips }
         ensures none { slips_left self.new.slips ≡ 0 }
     {
-        self.spend(0) + self.spend(1) + self.spend(2) + self.spend(3)
+        let mut left = 0;
+        for station in 0..4 {
+            left += self.spend(station);
+        }
+        left
     }
 }

@@ -6,6 +6,7 @@ use keys::Tray;
 use protocol::Cell;
 use std::alloc::{AllocError, Global};
 use std::fmt;
+use std::fmt::Write;
 
 // A cell as it is printed: its key, or a dash where it is empty; a star where it is marked.
 #[derive(Clone, Copy)]
@@ -16,7 +17,7 @@ impl fmt::Display for Printed {
 
     fn fmt<W: fmt::Write>(&self, f: &mut fmt::Formatter<W>) -> fmt::Result {
         let Printed(cell) = *self;
-        let key = cell.key.number();
+        let key = cell.key;
         match (cell.occupied, cell.marked) {
             (true, true) => write!(f, "{key}*"),
             (true, false) => write!(f, "{key}"),
@@ -32,9 +33,7 @@ pub fn cells_text(heap: Global, cells: &[Cell<Tray>]) -> Result<String, AllocErr
 {
     let mut text = String::from_str(heap, "cells:")?;
     for cell in cells {
-        let next = Printed(*cell);
-        let word = format!(in heap; " {next}")?;
-        text.push_str(word.as_str())?;
+        write!(text, " {}", Printed(*cell))?;
     }
     Ok(text)
 }

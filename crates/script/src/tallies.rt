@@ -1,6 +1,6 @@
 //! What was done: the replies of a script, counted.
-ghost use Rattle.std.specs.Prelude.{◌≡◌, ◌+◌, ◌^◌, ◌<◌, ◌≤◌, Some};
-ghost use Rattle.script.specs.Tallies.{one, plus, total, tally_of, tally_text};
+ghost use Rattle.std.specs.Prelude.{◌≡◌, Some, count_by};
+ghost use Rattle.script.specs.Tallies.{tells, is_refusal, is_malformed, tally_of, tally_text};
 
 use crate::orders::Fault;
 use crate::replies::Reply;
@@ -35,55 +35,59 @@ impl fmt::Display for Tally {
     }
 }
 
-const NONE: Tally = Tally {
-    inserted: 0,
-    found: 0,
-    full: 0,
-    refused: 0,
-    malformed: 0,
-};
+impl Reply {
+    // Whether this is the answer of an entry.
+    fn tells(&self, answer: Answer) -> bool
+        ensures { result ≡ tells answer self.now }
+    {
+        *self == Reply::Told(answer)
+    }
+
+    // Whether an order or its tray is refused.
+    fn is_refusal(&self) -> bool
+        ensures { result ≡ is_refusal self.now }
+    {
+        matches!(self, Reply::Refused(_) | Reply::Faulty(Fault::NoTray(_)))
+    }
+
+    // Whether the line is malformed.
+    fn is_malformed(&self) -> bool
+        ensures { result ≡ is_malformed self.now }
+    {
+        *self == Reply::Faulty(Fault::Malformed)
+    }
+}
+
+// How many entries were given this answer.
+fn told(replies: &[Reply], answer: Answer) -> usize
+    ensures { result ≡ count_by (tells answer) replies.now }
+{
+    replies.iter().filter(|reply| reply.tells(answer)).count()
+}
+
+fn refused(replies: &[Reply]) -> usize
+    ensures { result ≡ count_by is_refusal replies.now }
+{
+    replies.iter().filter(|reply| reply.is_refusal()).count()
+}
+
+fn malformed(replies: &[Reply]) -> usize
+    ensures { result ≡ count_by is_malformed replies.now }
+{
+    replies.iter().filter(|reply| reply.is_malformed()).count()
+}
 
 impl Tally {
-    // One reply counted.
-    fn one(reply: Reply) -> Tally
-        ensures value { result ≡ one reply }
-        ensures bound { total result ≤ 1 }
-    {
-        let mut t = NONE;
-        match reply {
-            Reply::Told(Answer::Inserted) => t.inserted = 1,
-            Reply::Told(Answer::Found) => t.found = 1,
-            Reply::Told(Answer::Full) => t.full = 1,
-            Reply::Refused(_) => t.refused = 1,
-            Reply::Faulty(Fault::NoTray(_)) => t.refused = 1,
-            Reply::Faulty(Fault::Malformed) => t.malformed = 1,
-            _ => {}
-        }
-        t
-    }
-
-    // Two tallies together.
-    fn plus(self, other: Tally) -> Tally
-        requires { total self + total other < 2 ^ 64 }
-        ensures { result ≡ plus self other }
-    {
-        Tally {
-            inserted: self.inserted + other.inserted,
-            found: self.found + other.found,
-            full: self.full + other.full,
-            refused: self.refused + other.refused,
-            malformed: self.malformed + other.malformed,
-        }
-    }
-
     /// Counts some replies.
     pub fn of(replies: &[Reply]) -> Tally
         ensures { result ≡ tally_of replies.now }
     {
-        let mut t = NONE;
-        for reply in replies {
-            t = t.plus(Tally::one(*reply));
+        Tally {
+            inserted: told(replies, Answer::Inserted),
+            found: told(replies, Answer::Found),
+            full: told(replies, Answer::Full),
+            refused: refused(replies),
+            malformed: malformed(replies),
         }
-        t
     }
 }

@@ -1,7 +1,6 @@
 //! Plays a script of turns from standard input over a register of ten trays with four stations, and prints each reply.
 #![tactic(auto)]
 
-use anyhow::anyhow;
 use keys::Tray;
 use protocol::Cell;
 use script::{Tally, play};
@@ -11,14 +10,8 @@ fn run(rt: &HostRuntime) -> anyhow::Result<()> {
     let heap = rt.alloc();
     let mut bytes = Vec::new(heap);
     rt.stdin().read_to_end(&mut bytes)?;
-    let Ok(filler) = Tray::new(0) else {
-        return Err(anyhow!("no tray"));
-    };
-    let mut cells = [Cell {
-        key: filler,
-        occupied: false,
-        marked: false,
-    }; 10];
+    let filler = Tray::new(0)?;
+    let mut cells = [Cell::empty(filler); 10];
     let report = play(heap, &mut cells, filler, bytes.as_slice())?;
     rt.print(report.text.as_str())?;
     let done = Tally::of(report.replies.as_slice());

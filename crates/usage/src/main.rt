@@ -1,9 +1,8 @@
 //! How a program uses a register: it lends cells and station records, makes a whole entry, begins an entry by steps, and spends the slip.
 #![tactic(auto)]
 
-use anyhow::anyhow;
 use keys::Tray;
-use protocol::{Answer, Cell, Departure, Refusal, Stage, Station};
+use protocol::{Answer, Cell, Departure, Refusal, Station};
 use register::{Refused, Register, open};
 
 /// What the entry of one slip came to.
@@ -30,22 +29,10 @@ fn enter_in_one_step(
 }
 
 fn run(rt: &HostRuntime) -> anyhow::Result<()> {
-    let Ok(filler) = Tray::new(0) else {
-        return Err(anyhow!("no tray"));
-    };
-    let Ok(tray) = Tray::new(400) else {
-        return Err(anyhow!("no tray"));
-    };
-    let mut cells = [Cell {
-        key: filler,
-        occupied: false,
-        marked: false,
-    }; 3];
-    let mut stations = [Station {
-        key: filler,
-        stage: Stage::Idle,
-        withdrawn: false,
-    }; 2];
+    let filler = Tray::new(0)?;
+    let tray = Tray::new(400)?;
+    let mut cells = [Cell::empty(filler); 3];
+    let mut stations = [Station::idle(filler); 2];
     let mut register = open(&mut cells, &mut stations, 1, filler);
     match register.enter(tray) {
         Ok(answer) => println!(rt; "400 in one call: {answer:?}")?,

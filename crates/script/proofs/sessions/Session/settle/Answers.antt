@@ -1,22 +1,16 @@
-use Rattle.std.proofs.Common.{◌≡◌, length, arith}
-use Rattle.script.proofs.Spendable.{all_counted, none_left}
+use Rattle.std.proofs.Common.{arith}
+use Rattle.script.proofs.Spendable.{settling, settled}
 use Rattle.script.proofs.sessions.Session.settle.Goals as goal
+
+pub loop-station-preserved : goal.loop-station-preserved
+loop-station-preserved c =
+    settling _ c.loop-station.self.slips c.spend-left.new.self.slips c.loop-station.station c.loop-station.left c.spend-left.result c.loop-station.invariant
+    c.spend-left.ensures.count c.spend-left.ensures.bound c.spend-left.ensures.after
+
+pub overflow_add-left : goal.overflow_add-left
+overflow_add-left c = omega (arith, c.loop-station.invariant.most, c.spend-left.ensures.bound)
 
 pub returns : goal.returns
 returns c =
-    let four : length c.args.self.now.slips ≡ 4 = c.args.self.now.four in
-    record {
-      count =
-          omega (
-            arith,
-            c.spend.ensures.count,
-            c.spend-2.ensures.count,
-            c.spend-3.ensures.count,
-            c.spend-4.ensures.count,
-            all_counted c.args.self.now.slips c.spend.new.self.slips c.spend-2.new.self.slips c.spend-3.new.self.slips c.spend-4.new.self.slips four
-                c.spend.ensures.after c.spend-2.ensures.after c.spend-3.ensures.after c.spend-4.ensures.after,
-          );
-      none =
-          none_left c.args.self.now.slips c.spend.new.self.slips c.spend-2.new.self.slips c.spend-3.new.self.slips c.spend-4.new.self.slips four
-          c.spend.ensures.after c.spend-2.ensures.after c.spend-3.ensures.after c.spend-4.ensures.after;
-    }
+    let all = settled _ c.loop-station.self.slips c.loop-station.station c.loop-station.left c.loop-station.invariant (omega (arith, c.loop-station.self.four)) in
+    record { count = all.0; none = all.1 }
