@@ -113,3 +113,5 @@ impl<'a, K: Key> Register<'a, K> {
 mod call_tests;
 #[cfg(test)]
 mod tests;
+#[cfg(test)]
+mod trial;

@@ -1,304 +1,289 @@
-//! Tests through the public calls: every refusal, the limits, withdrawing at every stage, and the worked examples.
-//!
-//! A test takes a slip down as its two numbers, so that it can end with any outcome. No program outside this crate can.
+//! Runs of calls from the opening on: the worked examples, withdrawing at every stage, the limits, and the slip of another register.
 use super::*;
+use crate::trial::{Call, Memory, Numbers, Said, Trial, held, leaving, marked};
 use keys::Tray;
 use protocol::Stage;
+use std::mem;
 use std::process::Abort;
 use std::test::Fail;
 
-fn numbers(r: Result<Slip, Refusal>) -> Result<(u32, usize), Refusal> {
-    match r {
-        Ok(Slip { register, station }) => Ok((register, station)),
-        Err(refusal) => Err(refusal),
-    }
-}
+const INSERTED: Result<Said, Refusal> = Ok(Said::Told(Answer::Inserted));
 
-fn slip(numbers: (u32, usize)) -> Slip {
-    Slip {
-        register: numbers.0,
-        station: numbers.1,
-    }
-}
-
-fn outcome<T: Drop>(r: Result<T, Refused>) -> Result<T, Refusal> {
-    match r {
-        Ok(x) => Ok(x),
-        Err(
-            Refused {
-                slip: Slip {
-                    register: _,
-                    station: _,
-                },
-                refusal,
-            },
-        ) => Err(refusal),
-    }
-}
-
-fn cell(key: Tray) -> Cell<Tray> {
-    Cell {
-        key,
-        occupied: true,
-        marked: true,
-    }
-}
-
-fn record(key: Tray, stage: Stage, withdrawn: bool) -> Station<Tray> {
-    Station {
-        key,
-        stage,
-        withdrawn,
-    }
-}
-
-fn number_of(r: Result<Answer, Refusal>) -> u8 {
-    match r {
-        Ok(Answer::Inserted) => 100,
-        Ok(Answer::Found) => 101,
-        Ok(Answer::Full) => 102,
-        Err(refusal) => refusal.number(),
-    }
-}
-
-// The keys of the cells, 1000 for none.
-fn check_row(rt: &impl Abort, r: &mut Register<Tray>, row: &[u16]) {
-    for (i, expected) in row.iter().enumerate() {
-        let found = match r.key_at(i) {
-            Some(key) => key.number(),
-            None => 1000,
-        };
-        assert_eq!(rt; found, *expected);
-    }
-    assert_eq!(rt; r.key_at(row.len()).is_some(), false);
-}
-
-const INSERTED: u8 = 100;
-
-const FOUND: u8 = 101;
-
-const FULL: u8 = 102;
-
-const NONE: u16 = 1000;
-
-// Whole entries, each with its answer.
-fn enter_all(rt: &impl Abort, r: &mut Register<Tray>, keys: &[(u16, u8)]) -> Result<(), Fail> {
-    for (key, answer) in keys {
-        assert_eq!(rt; number_of(r.enter(Tray::new(*key)?)), *answer);
-    }
-    Ok(())
-}
-
-// Steps a station until it is answered, and collects.
-fn by_steps(
-    r: &mut Register<Tray>,
-    stations: &mut [Station<Tray>],
-    s: usize,
-    k: u16,
-) -> Result<u8, Fail> {
-    let mine = numbers(r.begin(stations, s, Tray::new(k)?))?;
-    for _ in 0..70 {
-        if r.step(stations, s)? == Progress::Answered {
-            return Ok(number_of(outcome(r.collect(stations, slip(mine)))));
-        }
-    }
-    Err(Fail::new("no answer"))
-}
-
-// The same by steps of one station.
-fn step_all(
-    rt: &impl Abort,
-    r: &mut Register<Tray>,
-    stations: &mut [Station<Tray>],
-    s: usize,
-    keys: &[(u16, u8)],
-) -> Result<(), Fail> {
-    for (key, answer) in keys {
-        assert_eq!(rt; by_steps(r, stations, s, *key)?, *answer);
-    }
-    Ok(())
-}
-
-const TEN: [(u16, u8); 8] = [
-    (145, INSERTED),
-    (293, INSERTED),
-    (297, INSERTED),
-    (458, INSERTED),
-    (553, INSERTED),
-    (526, INSERTED),
-    (841, INSERTED),
-    (931, INSERTED),
+const TEN: [(u16, Answer); 8] = [
+    (145, Answer::Inserted),
+    (293, Answer::Inserted),
+    (297, Answer::Inserted),
+    (458, Answer::Inserted),
+    (553, Answer::Inserted),
+    (526, Answer::Inserted),
+    (841, Answer::Inserted),
+    (931, Answer::Inserted),
 ];
 
-const TEN_ROW: [u16; 10] = [145, 293, 297, NONE, 458, 526, 553, NONE, 841, 931];
+const TEN_ROW: [Option<u16>; 10] = [
+    Some(145),
+    Some(293),
+    Some(297),
+    None,
+    Some(458),
+    Some(526),
+    Some(553),
+    None,
+    Some(841),
+    Some(931),
+];
 
-const TWO: [(u16, u8); 4] = [(100, INSERTED), (200, INSERTED), (300, FULL), (200, FOUND)];
+const TWO: [(u16, Answer); 4] = [
+    (100, Answer::Inserted),
+    (200, Answer::Inserted),
+    (300, Answer::Full),
+    (200, Answer::Found),
+];
 
-const THREE: [(u16, u8); 3] = [(500, INSERTED), (400, INSERTED), (450, INSERTED)];
+const THREE: [(u16, Answer); 3] = [
+    (500, Answer::Inserted),
+    (400, Answer::Inserted),
+    (450, Answer::Inserted),
+];
 
-// Enters keys into a register over these cells, by whole entries and then, opened again, by steps.
-fn both_ways(
+const ONE: [(u16, Answer); 3] = [
+    (999, Answer::Inserted),
+    (0, Answer::Full),
+    (999, Answer::Found),
+];
+
+// As many cells as the row has, after these keys: by whole entries and then, opened again, by steps of the last station,
+// of one and of two.
+fn both_ways<const N: usize>(
     rt: &impl Abort,
-    cells: &mut [Cell<Tray>],
-    keys: &[(u16, u8)],
-    row: &[u16],
+    keys: &[(u16, Answer)],
+    row: &[Option<u16>; N],
 ) -> Result<(), Fail> {
     let old = Tray::new(7)?;
-    let stations: &mut [Station<Tray>] = &mut [record(old, Stage::Home, true); 2];
-    let mut r = open(cells, stations, 5, old);
-    enter_all(rt, &mut r, keys)?;
-    check_row(rt, &mut r, row);
-    let mut r = open(cells, stations, 5, old);
-    step_all(rt, &mut r, stations, 1, keys)?;
-    check_row(rt, &mut r, row);
+    for last in 0..2 {
+        let mut cells = [marked(old); N];
+        let mut stations = [leaving(old); 2];
+        let stations = &mut stations[..last + 1];
+        let mut trial = Trial::open(rt, &mut cells, stations)?;
+        trial.enter_all(keys)?;
+        trial.check_row(row);
+        let mut trial = Trial::open(rt, &mut cells, stations)?;
+        trial.step_all(last, keys)?;
+        trial.check_row(row);
+    }
     Ok(())
 }
 
 #[test]
 fn worked_examples(rt: HostRuntime) -> Result<(), Fail> {
-    let old = Tray::new(7)?;
-    both_ways(&rt, &mut [cell(old); 10], &TEN, &TEN_ROW)?;
-    both_ways(&rt, &mut [cell(old); 2], &TWO, &[100, 200])?;
-    both_ways(&rt, &mut [cell(old); 3], &THREE, &[400, 450, 500])
+    both_ways(&rt, &TEN, &TEN_ROW)?;
+    both_ways(&rt, &TWO, &[Some(100), Some(200)])?;
+    both_ways(&rt, &THREE, &[Some(400), Some(450), Some(500)])
 }
 
-// So many steps of a station, each of which goes on.
-fn goes_on(
-    rt: &impl Abort,
-    r: &mut Register<Tray>,
-    stations: &mut [Station<Tray>],
-    s: usize,
-    steps: usize,
-) -> Result<(), Fail> {
-    for _ in 0..steps {
-        assert_eq!(rt; r.step(stations, s)?, Progress::GoesOn);
-    }
-    Ok(())
-}
-
-// Three cells, 500 held: the entry of 400.
-fn twelve(
-    rt: &impl Abort,
-    cells: &mut [Cell<Tray>],
-    stations: &mut [Station<Tray>],
-) -> Result<(), Fail> {
-    let mut r = open(cells, stations, 5, Tray::new(7)?);
-    enter_all(rt, &mut r, &[(500, INSERTED)])?;
-    let mine = numbers(r.begin(stations, 0, Tray::new(400)?))?;
-    goes_on(rt, &mut r, stations, 0, 6)?;
-    let other = numbers(r.begin(stations, 1, Tray::new(100)?))?;
-    goes_on(rt, &mut r, stations, 1, 1)?;
-    enter_all(rt, &mut r, &[(100, 8)])?;
-    assert_eq!(rt;
-        outcome(r.withdraw(stations, slip(other)))?,
-        Departure::Gone
-    );
-    goes_on(rt, &mut r, stations, 0, 5)?;
-    assert_eq!(rt; r.step(stations, 0)?, Progress::Answered);
-    assert_eq!(rt;
-        number_of(outcome(r.collect(stations, slip(mine)))),
-        INSERTED
-    );
-    check_row(rt, &mut r, &[NONE, 400, 500]);
-    Ok(())
-}
+// Three cells, 500 held: the entry of 400. After the sixth step its marks bar others.
+const TWELVE: [(Call, Result<Said, Refusal>); 10] = [
+    (Call::Enter(500), INSERTED),
+    (Call::Begin(0, 400), Ok(Said::Begun(Numbers(5, 0)))),
+    (Call::Steps(0, 6), Ok(Said::Stepped(Progress::GoesOn))),
+    (Call::Begin(1, 100), Ok(Said::Begun(Numbers(5, 1)))),
+    (Call::Steps(1, 1), Ok(Said::Stepped(Progress::GoesOn))),
+    (Call::Enter(100), Err(Refusal::Barred)),
+    (
+        Call::Withdraw(Numbers(5, 1)),
+        Ok(Said::Left(Departure::Gone)),
+    ),
+    (Call::Steps(0, 5), Ok(Said::Stepped(Progress::GoesOn))),
+    (Call::Steps(0, 1), Ok(Said::Stepped(Progress::Answered))),
+    (Call::Collect(Numbers(5, 0)), INSERTED),
+];
 
 #[test]
 fn twelve_steps(rt: HostRuntime) -> Result<(), Fail> {
     let old = Tray::new(7)?;
-    twelve(
-        &rt,
-        &mut [cell(old); 3],
-        &mut [record(old, Stage::Home, true); 2],
-    )
+    let mut cells = [marked(old); 3];
+    let mut stations = [leaving(old); 2];
+    let mut trial = Trial::open(&rt, &mut cells, &mut stations)?;
+    trial.run(&TWELVE)?;
+    trial.check_row(&[None, Some(400), Some(500)]);
+    Ok(())
 }
 
-// Steps a withdrawn station until it is idle.
-fn until_idle(r: &mut Register<Tray>, stations: &mut [Station<Tray>]) -> Result<(), Fail> {
-    for _ in 0..12 {
-        if r.step(stations, 0)? == Progress::Idle {
-            return Ok(());
-        }
-    }
-    Err(Fail::new("not idle"))
-}
-
-// After so many steps of the entry of 400, it is withdrawn; then the register works on.
-fn withdrawn_after(
-    rt: &impl Abort,
-    cells: &mut [Cell<Tray>],
-    stations: &mut [Station<Tray>],
-    steps: usize,
-) -> Result<Departure, Fail> {
-    let mut r = open(cells, stations, 5, Tray::new(7)?);
-    enter_all(rt, &mut r, &[(500, INSERTED)])?;
-    let mine = numbers(r.begin(stations, 0, Tray::new(400)?))?;
+// Three cells, 500 held: the entry of 400 is withdrawn after so many steps. It goes on while it holds a mark.
+fn withdraw_after(trial: &mut Trial<'_, impl Abort>, steps: usize) -> Result<Departure, Fail> {
+    let slip = Numbers(5, 0);
+    trial.run(&[
+        (Call::Enter(500), INSERTED),
+        (Call::Begin(0, 400), Ok(Said::Begun(slip))),
+    ])?;
     for _ in 0..steps {
-        let _ = r.step(stations, 0)?;
+        let _ = trial.register.step(trial.stations, 0)?;
     }
-    let said = outcome(r.withdraw(stations, slip(mine)))?;
-    if said == Departure::GoesOn {
-        assert_eq!(rt; number_of(outcome(r.collect(stations, slip(mine)))), 5);
-        until_idle(&mut r, stations)?;
-    }
-    assert_eq!(rt; by_steps(&mut r, stations, 0, 100)?, INSERTED);
+    let said = if (5..12).contains(&steps) {
+        Departure::GoesOn
+    } else {
+        Departure::Gone
+    };
+    trial.run(&[(Call::Withdraw(slip), Ok(Said::Left(said)))])?;
     Ok(said)
 }
 
+// A withdrawn entry that goes on is stepped until its station is idle; then the station enters another key.
 #[test]
 fn withdrawing_at_every_stage(rt: HostRuntime) -> Result<(), Fail> {
     let old = Tray::new(7)?;
     for steps in 0..13 {
-        let cells: &mut [Cell<Tray>] = &mut [cell(old); 3];
-        let stations: &mut [Station<Tray>] = &mut [record(old, Stage::Home, true); 1];
-        let said = withdrawn_after(&rt, cells, stations, steps)?;
-        assert_eq!(rt; said == Departure::GoesOn, 5 <= steps && steps < 12);
+        let mut cells = [marked(old); 3];
+        let mut stations = [leaving(old); 1];
+        let mut trial = Trial::open(&rt, &mut cells, &mut stations)?;
+        if withdraw_after(&mut trial, steps)? == Departure::GoesOn {
+            trial.run(&[(Call::Collect(Numbers(5, 0)), Err(Refusal::NoEntry))])?;
+            trial.step_until(0, Progress::Idle, 12)?;
+        }
+        trial.step_all(0, &[(100, Answer::Inserted)])?;
     }
     Ok(())
 }
 
-// Every call of a register of a wrong size is refused with 1; with a wrong count of stations those of a station with 3.
-fn all_refused(
+// Twelve steps of station 0, whatever they say.
+fn step_on(trial: &mut Trial<'_, impl Abort>) {
+    for _ in 0..12 {
+        let _ = trial.register.step(trial.stations, 0);
+    }
+}
+
+// Twelve steps after the withdrawal, accepted or not, the station is idle; then a whole entry enters another key.
+#[test]
+fn withdrawing_after_every_step(rt: HostRuntime) -> Result<(), Fail> {
+    let old = Tray::new(7)?;
+    for steps in 0..13 {
+        let mut cells = [marked(old); 3];
+        let mut stations = [leaving(old); 1];
+        let mut trial = Trial::open(&rt, &mut cells, &mut stations)?;
+        let _ = withdraw_after(&mut trial, steps)?;
+        step_on(&mut trial);
+        trial.run(&[
+            (Call::Steps(0, 1), Err(Refusal::NoEntry)),
+            (Call::Enter(100), INSERTED),
+        ])?;
+    }
+    Ok(())
+}
+
+// Three cells, 500 held: after the first mark of the entry of 400, another entry takes the cell that was to be marked second.
+const GIVE_BACK: [(Call, Result<Said, Refusal>); 6] = [
+    (Call::Enter(500), INSERTED),
+    (Call::Begin(0, 400), Ok(Said::Begun(Numbers(5, 0)))),
+    (Call::Steps(0, 5), Ok(Said::Stepped(Progress::GoesOn))),
+    (Call::Enter(900), INSERTED),
+    (Call::Steps(0, 1), Ok(Said::Stepped(Progress::GoesOn))),
+    (
+        Call::Withdraw(Numbers(5, 0)),
+        Ok(Said::Left(Departure::GoesOn)),
+    ),
+];
+
+#[test]
+fn withdrawing_at_give_back(rt: HostRuntime) -> Result<(), Fail> {
+    let old = Tray::new(7)?;
+    let key = Tray::new(400)?;
+    let mut cells = [marked(old); 3];
+    let mut stations = [leaving(old); 1];
+    let mut trial = Trial::open(&rt, &mut cells, &mut stations)?;
+    trial.run(&GIVE_BACK)?;
+    let mut cells = [
+        Cell::empty(old),
+        held(Tray::new(500)?),
+        held(Tray::new(900)?),
+    ];
+    cells[0].marked = true;
+    let going = Station {
+        key,
+        stage: Stage::GiveBack { cell: 0 },
+        withdrawn: true,
+    };
+    assert_eq!(rt;
+        trial.memory(),
+        Memory {
+            cells: &cells,
+            stations: &[going]
+        }
+    );
+    trial.run(&[(Call::Steps(0, 1), Ok(Said::Stepped(Progress::Idle)))])?;
+    cells[0].marked = false;
+    assert_eq!(rt;
+        trial.memory(),
+        Memory {
+            cells: &cells,
+            stations: &[Station::idle(key)]
+        }
+    );
+    trial.run(&[(Call::Enter(400), INSERTED)])?;
+    trial.check_row(&[Some(400), Some(500), Some(900)]);
+    Ok(())
+}
+
+// Over too many cells or none, nothing is written, not even by the opening.
+fn wrong_sized(rt: &impl Abort, cells: &mut [Cell<Tray>], kept: &[Cell<Tray>]) -> Result<(), Fail> {
+    let records = [leaving(Tray::new(7)?); 1];
+    let mut stations = records;
+    let mut trial = Trial::open(rt, cells, &mut stations)?;
+    let before = Memory {
+        cells: kept,
+        stations: &records,
+    };
+    let size = Refusal::WrongSize;
+    trial.refuse(before, Numbers(5, 0), 8, [Some(size); 5])?;
+    trial.refuse(before, Numbers(6, 1), 400, [Some(size); 5])?;
+    trial.run(&[(Call::Enter(7), Err(size))])?;
+    assert_eq!(rt; trial.register.key_at(0), None);
+    Ok(())
+}
+
+// With too many stations or none, no record is written; whole entries go on.
+fn wrong_count(
     rt: &impl Abort,
-    r: &mut Register<Tray>,
     stations: &mut [Station<Tray>],
-    refusal: Refusal,
+    kept: &[Station<Tray>],
 ) -> Result<(), Fail> {
-    assert_eq!(rt; numbers(r.begin(stations, 0, Tray::new(8)?)), Err(refusal));
-    assert_eq!(rt; r.step(stations, 0), Err(refusal));
-    assert_eq!(rt; outcome(r.collect(stations, slip((5, 0)))), Err(refusal));
-    assert_eq!(rt; outcome(r.withdraw(stations, slip((5, 0)))), Err(refusal));
-    Ok(())
-}
-
-fn wrong_sized(rt: &impl Abort, cells: &mut [Cell<Tray>]) -> Result<(), Fail> {
     let old = Tray::new(7)?;
-    let stations: &mut [Station<Tray>] = &mut [record(old, Stage::Home, true); 1];
-    let mut r = open(cells, stations, 5, old);
-    all_refused(rt, &mut r, stations, Refusal::WrongSize)?;
-    enter_all(rt, &mut r, &[(7, 1)])?;
-    assert_eq!(rt; r.key_at(0).is_some(), false);
+    let mut cells = [marked(old); 3];
+    let mut trial = Trial::open(rt, &mut cells, stations)?;
+    trial.check_row(&[None, None, None]);
+    let before = Memory {
+        cells: &[Cell::empty(old); 3],
+        stations: kept,
+    };
+    let none = Some(Refusal::NoStation);
+    let other = Some(Refusal::OtherRegister);
+    trial.refuse(before, Numbers(5, 0), 8, [none, none, none, none, None])?;
+    trial.refuse(before, Numbers(5, 0), 400, [none, none, none, none, None])?;
+    trial.refuse(before, Numbers(6, 0), 400, [none, none, other, other, None])?;
+    trial.run(&[(Call::Enter(7), INSERTED)])?;
+    trial.check_row(&[Some(7), None, None]);
     Ok(())
 }
 
-fn wrong_count(rt: &impl Abort, stations: &mut [Station<Tray>]) -> Result<(), Fail> {
+#[test]
+fn limits(rt: HostRuntime) -> Result<(), Fail> {
     let old = Tray::new(7)?;
-    let mut cells = [cell(old); 3];
-    let mut r = open(&mut cells, stations, 5, old);
-    check_row(rt, &mut r, &[NONE, NONE, NONE]);
-    all_refused(rt, &mut r, stations, Refusal::NoStation)?;
-    enter_all(rt, &mut r, &[(7, INSERTED)])?;
-    check_row(rt, &mut r, &[7, NONE, NONE]);
-    Ok(())
+    wrong_sized(&rt, &mut [], &[])?;
+    both_ways(&rt, &ONE, &[Some(999)])?;
+    wrong_count(&rt, &mut [], &[])?;
+    wrong_count(&rt, &mut [leaving(old); 65], &[leaving(old); 65])
 }
 
-// As many cells as a register may have.
+// As many cells as a register may have: 999 and 0 by whole entries, 500 and 0 by steps.
 fn most(rt: &impl Abort, cells: &mut [Cell<Tray>]) -> Result<(), Fail> {
-    let old = Tray::new(7)?;
-    let stations: &mut [Station<Tray>] = &mut [record(old, Stage::Home, true); 1];
-    let mut r = open(cells, stations, 5, old);
-    enter_all(rt, &mut r, &[(999, INSERTED), (0, INSERTED), (999, FOUND)])?;
-    step_all(rt, &mut r, stations, 0, &[(500, INSERTED), (0, FOUND)])?;
+    let mut stations = [leaving(Tray::new(7)?); 1];
+    let mut trial = Trial::open(rt, cells, &mut stations)?;
+    trial.enter_all(&[
+        (999, Answer::Inserted),
+        (0, Answer::Inserted),
+        (999, Answer::Found),
+    ])?;
+    trial.step_all(0, &[(500, Answer::Inserted), (0, Answer::Found)])?;
+    let r = &mut trial.register;
     assert!(rt; r.key_at(65_470).is_some() && r.key_at(0).is_some());
     assert!(rt; r.key_at(65_536).is_none() && r.key_at(usize::MAX).is_none());
     Ok(())
@@ -306,144 +291,45 @@ fn most(rt: &impl Abort, cells: &mut [Cell<Tray>]) -> Result<(), Fail> {
 
 #[test]
 fn most_cells(rt: HostRuntime) -> Result<(), Fail> {
-    let old = Tray::new(7)?;
-    most(&rt, &mut [cell(old); 65_536])?;
-    wrong_sized(&rt, &mut [cell(old); 65_537])
+    let old = marked(Tray::new(7)?);
+    most(&rt, &mut [old; 65_536])?;
+    wrong_sized(&rt, &mut [old; 65_537], &[old; 65_537])
 }
 
-#[test]
-fn limits(rt: HostRuntime) -> Result<(), Fail> {
-    let old = Tray::new(7)?;
-    wrong_sized(&rt, &mut [])?;
-    both_ways(
-        &rt,
-        &mut [cell(old); 1],
-        &[(999, INSERTED), (0, FULL), (999, FOUND)],
-        &[999],
-    )?;
-    wrong_count(&rt, &mut [])?;
-    wrong_count(&rt, &mut [record(old, Stage::Home, true); 65])
-}
-
-// A slip of another register comes back, and is spent at its own.
-fn strange_slip(
-    rt: &impl Abort,
-    r: &mut Register<Tray>,
-    other: &mut Register<Tray>,
-    stations: &mut [Station<Tray>],
-) -> Result<(), Fail> {
-    let mine = numbers(r.begin(stations, 63, Tray::new(500)?))?;
-    assert_eq!(rt; r.step(stations, 63)?, Progress::Answered);
-    let refused = outcome(other.withdraw(stations, slip(mine)));
-    assert_eq!(rt; refused, Err(Refusal::OtherRegister));
-    let back = match other.collect(stations, slip(mine)) {
-        Ok(_) => return Err(Fail::new("collected")),
-        Err(Refused { slip, refusal: _ }) => numbers(Ok(slip))?,
-    };
-    assert!(rt; back.0 == mine.0 && back.1 == mine.1);
-    assert_eq!(rt;
-        number_of(outcome(r.collect(stations, slip(mine)))),
-        INSERTED
-    );
-    Ok(())
-}
-
+// A slip of another register comes back, and is spent at its own. There are 64 stations.
 #[test]
 fn slip_of_another_register(rt: HostRuntime) -> Result<(), Fail> {
     let old = Tray::new(7)?;
-    let stations: &mut [Station<Tray>] = &mut [record(old, Stage::Home, true); 64];
-    let mut cells = [cell(old); 3];
-    let mut others = [cell(old); 3];
-    let mut r = open(&mut cells, stations, 5, old);
-    let mut other = open(&mut others, stations, 6, old);
-    strange_slip(&rt, &mut r, &mut other, stations)
-}
-
-// A row of numbers that tells these stages apart.
-fn told(stage: Stage) -> (usize, usize) {
-    match stage {
-        Stage::Idle => (0, 0),
-        Stage::Home => (1, 0),
-        Stage::GiveBack { cell } => (2, cell),
-        Stage::Answered { answer } => (3, answer as usize),
-        _ => (4, 0),
-    }
-}
-
-fn same_record(x: Station<Tray>, y: Station<Tray>) -> bool {
-    let (a, b) = told(x.stage);
-    let (c, d) = told(y.stage);
-    x.key.number() == y.key.number() && x.withdrawn == y.withdrawn && a == c && b == d
-}
-
-// The checks of the calls that name a station, by the record that they meet.
-fn refuse(
-    rt: &impl Abort,
-    r: &mut Register<Tray>,
-    stations: &mut [Station<Tray>],
-    s: usize,
-    expected: [Option<Refusal>; 4],
-) -> Result<(), Fail> {
-    let [begins, steps, collects, withdraws] = expected;
-    if let Some(refusal) = begins {
-        assert_eq!(rt; numbers(r.begin(stations, s, Tray::new(9)?)), Err(refusal));
-    }
-    if let Some(refusal) = steps {
-        assert_eq!(rt; r.step(stations, s), Err(refusal));
-    }
-    if let Some(refusal) = collects {
-        assert_eq!(rt; outcome(r.collect(stations, slip((5, s)))), Err(refusal));
-    }
-    if let Some(refusal) = withdraws {
-        assert_eq!(rt; outcome(r.withdraw(stations, slip((5, s)))), Err(refusal));
-    }
-    Ok(())
-}
-
-// One record, the calls that are refused, and the record after them.
-fn refused_at(
-    rt: &impl Abort,
-    stage: Stage,
-    withdrawn: bool,
-    expected: [Option<Refusal>; 4],
-) -> Result<(), Fail> {
-    let before = record(Tray::new(8)?, stage, withdrawn);
-    let cells: &mut [Cell<Tray>] = &mut [cell(Tray::new(7)?); 3];
-    let stations: &mut [Station<Tray>] = &mut [before; 1];
-    let mut r = Register { cells, number: 5 };
-    refuse(rt, &mut r, stations, 0, expected)?;
-    enter_all(rt, &mut r, &[(9, 8)])?;
-    check_row(rt, &mut r, &[7, 7, 7]);
-    assert!(rt; stations.len() == 1);
-    assert!(rt; same_record(stations[0], before));
-    Ok(())
-}
-
-#[test]
-fn refusals(rt: HostRuntime) -> Result<(), Fail> {
-    let busy = Some(Refusal::NotIdle);
-    let none = Some(Refusal::NoEntry);
-    let early = Some(Refusal::NotAnswered);
-    let full = Answer::Full;
-    refused_at(&rt, Stage::Idle, false, [None, none, none, none])?;
-    refused_at(&rt, Stage::Home, false, [busy, None, early, None])?;
-    refused_at(&rt, Stage::Home, true, [busy, None, none, none])?;
-    refused_at(
-        &rt,
-        Stage::GiveBack { cell: 3 },
-        false,
-        [busy, Some(Refusal::NoCell), early, None],
-    )?;
-    refused_at(
-        &rt,
-        Stage::Answered { answer: full },
-        false,
-        [busy, none, None, None],
-    )?;
-    refused_at(
-        &rt,
-        Stage::Answered { answer: full },
-        true,
-        [busy, none, none, none],
-    )
+    let slip = Numbers(5, 63);
+    let mut cells = [marked(old); 3];
+    let mut others = cells;
+    let mut stations = [leaving(old); 64];
+    let register = open(&mut cells, &mut stations, 5, old);
+    let mut other = open(&mut others, &mut stations, 6, old);
+    let mut trial = Trial {
+        rt: &rt,
+        register,
+        stations: &mut stations,
+    };
+    trial.run(&[
+        (Call::Begin(63, 500), Ok(Said::Begun(slip))),
+        (Call::Steps(63, 1), Ok(Said::Stepped(Progress::Answered))),
+    ])?;
+    let mut records = [Station::idle(old); 64];
+    records[63] = Station {
+        key: Tray::new(500)?,
+        stage: Stage::Answered {
+            answer: Answer::Inserted,
+        },
+        withdrawn: false,
+    };
+    let before = Memory {
+        cells: &[Cell::empty(old); 3],
+        stations: &records,
+    };
+    let refusal = Some(Refusal::OtherRegister);
+    mem::swap(&mut trial.register, &mut other);
+    trial.refuse(before, slip, 500, [None, None, refusal, refusal, None])?;
+    mem::swap(&mut trial.register, &mut other);
+    trial.run(&[(Call::Collect(slip), INSERTED)])
 }
