@@ -43,6 +43,7 @@ fn put_one_away(held: Option<Slip>)
 pub fn put_away(slips: [Option<Slip>; 4])
     requires { slips_left slips ≡ 0 }
 {
+    // No loop: an iterator over places for slips could not be let go at its end, as a slip cannot.
     let [first, second, third, fourth] = slips;
     put_one_away(first);
     put_one_away(second);

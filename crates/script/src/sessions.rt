@@ -22,6 +22,7 @@ use std::alloc::{AllocError, Global};
 /// Each slip in hand can be spent, and `settle` spends what is left. A session ends with no slip in hand.
 pub struct Session<'a> {
     pub(crate) register: Register<'a, Tray>,
+    // The records stay an array of their own beside the slips: a register takes a slice of records.
     pub(crate) stations: [Station<Tray>; 4],
     pub(crate) slips: [Option<Slip>; 4],
     ghost four: { length slips ≡ 4 },
