@@ -1,5 +1,5 @@
 //! Type numbers and trays: limits, homes and order.
-use keys::{Key, Tray, TypeNumber};
+use keys::{AboveLimit, Key, Tray, TypeNumber};
 use std::test::Fail;
 
 #[test]
@@ -7,10 +7,7 @@ fn trays_have_a_limit(rt: HostRuntime) -> Result<(), Fail> {
     assert_eq!(rt; Tray::new(0)?.number(), 0);
     assert_eq!(rt; Tray::new(999)?.number(), 999);
     for number in 1000..=u16::MAX {
-        match Tray::new(number) {
-            Ok(_) => return Err(Fail::new("a tray above 999")),
-            Err(refusal) => assert_eq!(rt; refusal.number(), 13),
-        }
+        assert_eq!(rt; Tray::new(number).map_err(AboveLimit::number), Err(13));
     }
     Ok(())
 }
@@ -33,8 +30,8 @@ const TRAY_HOMES: [(u16, usize, usize); 12] = [
 
 #[test]
 fn trays_have_homes(rt: HostRuntime) -> Result<(), Fail> {
-    for (number, cells, home) in TRAY_HOMES.iter() {
-        assert_eq!(rt; Tray::new(*number)?.home(*cells), *home);
+    for (number, cells, home) in TRAY_HOMES {
+        assert_eq!(rt; Tray::new(number)?.home(cells), home);
     }
     Ok(())
 }
@@ -54,8 +51,8 @@ const TYPE_HOMES: [(u32, usize, usize); 10] = [
 
 #[test]
 fn types_have_homes(rt: HostRuntime) {
-    for (number, cells, home) in TYPE_HOMES.iter() {
-        assert_eq!(rt; TypeNumber(*number).home(*cells), *home);
+    for (number, cells, home) in TYPE_HOMES {
+        assert_eq!(rt; TypeNumber(number).home(cells), home);
     }
 }
 

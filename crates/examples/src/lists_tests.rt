@@ -1,15 +1,22 @@
 //! Lists of names: line ends, the first line of a name, the limit.
 use name_list::{Answer, MOST_LINES, Tally, answer_lines};
+use names::{Fault, Reason};
 use std::test::Fail;
 
 #[test]
 fn lines_end_at_0a_or_0d_0a(rt: HostRuntime) -> Result<(), Fail> {
     let report = answer_lines(rt.alloc(), b"Arles\r\nArles\nLyon\r\n\nLyon")?;
-    assert_eq!(rt; report.answers.len(), 5);
-    assert_eq!(rt; report.answers.get(0).copied(), Some(Answer::New));
-    assert_eq!(rt; report.answers.get(1).copied(), Some(Answer::Same(1)));
-    assert_eq!(rt; report.answers.get(2).copied(), Some(Answer::New));
-    assert_eq!(rt; report.answers.get(4).copied(), Some(Answer::Same(3)));
+    let answers = [
+        Answer::New,
+        Answer::Same(1),
+        Answer::New,
+        Answer::Refused(Fault {
+            reason: Reason::Length,
+            place: 0,
+        }),
+        Answer::Same(3),
+    ];
+    assert_eq!(rt; report.answers.as_slice(), answers.as_slice());
     assert_eq!(rt;
         Tally::of(report.answers.as_slice()),
         Tally {

@@ -57,11 +57,12 @@ fn other_lines_are_malformed(rt: HostRuntime) {
 }
 
 fn play_three(heap: Global, filler: Tray, script: &[u8]) -> Result<Report, AllocError> {
-    let mut cells = [Cell {
-        key: filler,
+    let old = Cell {
         occupied: true,
         marked: true,
-    }; 3];
+        ..Cell::empty(filler)
+    };
+    let mut cells = [old; 3];
     play(heap, &mut cells, filler, script)
 }
 
