@@ -1,5 +1,5 @@
 -- The digits of a key are those that were packed into it, so letters and keys tell each other.
-use Rattle.std.proofs.Common.{◌≡◌, ℕ, zero, suc, ◌+◌, ◌*◌, ◌%◌, ◌<◌, ◌≤◌, List, [], ◌∷◌, map, length, get_or, sym, refl, ap, ◌∙◌, le_of_suc-le-suc, arith}
+use Rattle.std.proofs.Common.{◌≡◌, ℕ, zero, suc, ◌+◌, ◌-◌, ◌*◌, ◌%◌, ◌<◌, ◌≤◌, List, [], ◌∷◌, map, length, get_or, sym, refl, ap, ◌∙◌, le_of_suc-le-suc, arith}
 use lib.Arith.{digits_div, digits_mod}
 use Rattle.names.specs.Letters.{Letter, digit}
 use Rattle.names.specs.Reading.{word_at, packed, key_of}
@@ -7,6 +7,33 @@ use Rattle.names.specs.Digits.{digits_of_word, digits_of}
 use Rattle.names.specs.Law.{padded}
 use Rattle.names.proofs.Rows.{Good}
 use Rattle.names.proofs.Spellings.{Fine}
+
+-- n digits from the i-th on, as one number
+abbrev pub word_from : (ℕ → ℕ) → ℕ → ℕ → ℕ
+word_from d i zero = 0
+word_from d i (suc n) = word_from d i n * 1024 + d (i + n)
+
+-- the largest number of n digits of 16 bits
+abbrev pub most : ℕ → ℕ
+most zero = 0
+most (suc n) = most n * 1024 + 65535
+
+most_rises : (m n : ℕ) → m ≤ n → most m ≤ most n
+most_rises zero n h = omega arith
+most_rises (suc m) zero h = absurd (omega arith)
+most_rises (suc m) (suc n) h = omega (arith, most_rises m n (omega arith))
+
+pub word_fits : (n w : ℕ) → n < 8 → w ≤ most n → w * 1024 + 65535 < 340282366920938463463374607431768211456
+word_fits n w h k = let m = most_rises n 7 (omega arith) in omega arith
+
+pub word_more : (d : ℕ → ℕ) (i k w x : ℕ) → i ≤ k → w ≡ word_from d i (k - i) → w ≤ most (k - i) → x ≡ d k → x < 65536 → (w * 1024 + x ≡ word_from d i (k + 1 - i)) × (w * 1024 + x ≤ most (k + 1 - i))
+word_more d i k w x h e l f m =
+    let n : (k + 1) - i ≡ suc (k - i) = omega arith in
+    let j : i + (k - i) ≡ k = omega arith in
+    rw n (rw (e, f, j) refl, omega arith)
+
+pub word_whole : (d : ℕ → ℕ) (i : ℕ) → word_from d i 8 ≡ word_at d i
+word_whole d i = let y : i + 0 ≡ i = omega arith in let z : 0 + d (i + 0) ≡ d i = omega (arith, ap d y) in rw z refl
 
 -- the last digit of a word
 peel : (n a x : ℕ) (ds : List ℕ) → x < 1024 → digits_of_word (suc n) (a * 1024 + x) ds ≡ digits_of_word n a (x ∷ ds)

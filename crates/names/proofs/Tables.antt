@@ -88,25 +88,11 @@ none_by c out (Some p) e =
 pub canonical_outside : (c : ℕ) → inside 192 383 c ≡ false → canonical c ≡ None
 canonical_outside c o = none_by c o (canonical c) refl
 
-alone : (n : ℕ) → digit_by (letter_by None n) ≡ n * 14
-alone n = grind (arith, nat_tests)
-
-pub digit_outside : (c : ℕ) → inside 192 383 c ≡ false → digit_by (letter_of c) ≡ letter_number c * 14
-unfolding letter_of
-digit_outside c o = rw (canonical_outside c o) (alone (letter_number c))
-
 pub table_gives : (t : List ℕ) (c : ℕ) → TableRule t → 192 ≤ c → c ≤ 383 → get_or t (c - 192) 0 ≡ digit_by (letter_of c)
 table_gives t c r h k = let e : 192 + (c - 192) ≡ c = omega arith in rw e at (r.each (c - 192) (omega (arith, r.all)))
 
 pub number_outside : (c : ℕ) → 128 ≤ c → inside 192 383 c ≡ false → letter_number c ≡ 0
 number_outside c h o = grind (arith, nat_tests)
-
-pub digit_none : (c : ℕ) → 128 ≤ c → inside 192 383 c ≡ false → 0 ≡ digit_by (letter_of c)
-digit_none c h o = sym (digit_outside c o ∙ ap (λ n. n * 14) (number_outside c h o))
-
-pub mark_is : (c : ℕ) → place_in 1 marks c ≡ mark_number c
-unfolding mark_number
-mark_is c = refl
 
 pub mark_most : (c : ℕ) → mark_number c ≤ 13
 unfolding mark_number
