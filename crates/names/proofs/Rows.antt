@@ -39,7 +39,6 @@ pub letter_good : (c : ℕ) (x : Letter) → letter_of c ≡ Some x → Good x
 unfolding letter_of
 letter_good c x e = good_by c (canonical c) (letter_number c) x (number_most c) refl e
 
-
 -- a letter's digit, as it is written in the table and as it is computed
 pub digit_some : (o : Option Letter) → ((x : Letter) → o ≡ Some x → Good x) → unless_zero (digit_by o) ≡ option_map digit o
 digit_some None g = refl
@@ -114,7 +113,7 @@ last_marked_here : (ds : List ℕ) (d m place : ℕ) → m ≤ 13 → 0 < length
 last_marked_here ds d m place h k e t =
     let n : length ds ≡ suc (length ds - 1) = omega arith in
     let w : refill (length ds) ds (set ds (length ds - 1) (d + m)) ≡ take (length ds - 1) ds ++ (d + m) ∷ [] =
-        items-with_items record { items = ds } (set ds (length ds - 1) (d + m)) (length-set ds (length ds - 1) (d + m)) ∙ last_set ds (length ds - 1) (d + m) n in
+    items-with_items record { items = ds } (set ds (length ds - 1) (d + m)) (length-set ds (length ds - 1) (d + m)) ∙ last_set ds (length ds - 1) (d + m) n in
     ap (λ (v : List ℕ). marked (letters_in v) m place) (last_split ds (length ds - 1) d n e)
     ∙ mark_last (take (length ds - 1) ds) d m place h t
     ∙ ap (λ (v : List ℕ). Ok (letters_in v)) (sym w)

@@ -94,6 +94,7 @@ impl Key for Name {
     }
 }
 
+// By hand, and not derived: these impls state the order of the 24 digits, where a derive would state one of the private words.
 impl PartialEq for Name {
     ghost eq = { λ x y. is_eq (name_order x y) };
 
@@ -150,6 +151,7 @@ impl Row {
         }
     }
 
+    // A mark on the last letter.
     fn push_mark(&mut self, mark: u16) -> Result<(), Reason>
         requires { mark ≤ 13 }
         ensures { (place : ℕ) → marked (letters_in self.old.digits.items) mark place ≡ went self.new.digits.items place result }
@@ -163,6 +165,7 @@ impl Row {
         }
     }
 
+    // A letter without a mark after it yet.
     fn push_letter(&mut self, digit: u16) -> Result<(), Reason>
         ensures { (place : ℕ) → lettered (letters_in self.old.digits.items) (Some (letter_at digit)) place ≡ went self.new.digits.items place result }
     {
@@ -186,7 +189,7 @@ impl Row {
         word
     }
 
-    // The key of the name with these digits.
+    // The key of a name with these digits.
     fn key(&self) -> Name
         ensures { result ≡ packed (λ k. slice_index self.now.digits.items k) }
     {
@@ -211,6 +214,7 @@ pub fn read(bytes: &[u8]) -> Result<Name, Fault>
         digits: ArrayVec::new(),
     };
     let mut rest = bytes;
+    // No iterator of code points: it would need a place of its own and an end after ill-formed bytes, which `?` is here.
     while !rest.is_empty() {
         let place = bytes.len() - rest.len();
         let (c, tail) = utf8::first(rest).ok_or(Fault {

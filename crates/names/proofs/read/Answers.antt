@@ -38,7 +38,7 @@ returns-in_err-map_err-clause-value c =
     c.loop-rest.invariant (search rules) (λ place. c.push.ensures place ∙ ap (went c.push.new.self.digits.items place) w.1)
 
 pub loop-rest-preserved : goal.loop-rest-preserved
-loop-rest-preserved c = 
+loop-rest-preserved c =
     let e : c.push.result ≡ Ok c.in_ok-map_err.field-0 = search rules in
     going_on c.args.bytes.now c.loop-rest.rest.now c.in_ok-c.tail.now c.loop-rest.row.digits.items c.push.new.self.digits.items c.in_ok-c.c
     c.loop-rest.invariant (search rules) (λ place. c.push.ensures place ∙ ap (went c.push.new.self.digits.items place) e)
