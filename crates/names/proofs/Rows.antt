@@ -1,16 +1,15 @@
 -- One more code point: what the reader's row then holds.
-use Rattle.std.proofs.Common.{◌≡◌, ℕ, ◌+◌, ◌-◌, ◌*◌, ◌/◌, ◌%◌, ◌<◌, ◌≤◌, Bool, true, false, cond, eqb, ltb, List, [], ◌∷◌, ◌++◌, map, reverse, length, slice_index, get_or, set, take, zero, suc, Some, None, Ok, Err, Option, Result, sym, refl, ap, length-set, ◌∙◌, subst, arith}
+use Rattle.std.proofs.Common.{◌≡◌, ℕ, ◌+◌, ◌-◌, ◌<◌, ◌≤◌, true, false, List, [], ◌∷◌, ◌++◌, map, reverse, length, slice_index, get_or, set, take, zero, suc, Some, None, Ok, Err, Option, sym, refl, ap, length-set, ◌∙◌, subst, arith}
 use Rattle.std.proofs.lemmas.Bool.Decides.{nat_tests}
 use lib.ListN.{length-reverse, length-map}
 use Rattle.std.proofs.lemmas.List.{reverse-append, map-append}
 use Rattle.std.specs.Option.{option_map}
 use Rattle.std.specs.List.{refill}
 use Rattle.arrayvec.proofs.ArrayVecLemmas.{items-with_items}
-use Rattle.names.specs.declared.Fault.{Fault}
 use Rattle.names.specs.declared.Reason.TheVariants.{NotListed, LooseMark, Length}
 use Rattle.names.specs.Decomposition.{canonical}
 use Rattle.names.specs.Utf8.{inside}
-use Rattle.names.specs.Letters.{Letter, mark_number, letter_number, letter_by, letter_of, digit, digit_by, bare, TableRule}
+use Rattle.names.specs.Letters.{Letter, mark_number, letter_number, plain_number, letter_by, letter_of, digit, digit_by, TableRule}
 use Rattle.names.specs.Reading.{fault, marked, lettered, stepped}
 use Rattle.names.specs.Progress.{unless_zero, bare_digit, letter_at, letters_in}
 use Rattle.names.proofs.Tables.{table_facts, mark_most, number_most, table_gives, canonical_outside, number_outside}
@@ -21,28 +20,24 @@ pub record Good (x : Letter) : Type 0 where
   pub most : x.number ≤ 72
   pub mark : x.mark ≤ 13
 
-abbrev letter_or : Option Letter → Letter
-letter_or None = record { number = 1; mark = 0 }
-letter_or (Some x) = x
+good_alone : (n : ℕ) (x : Letter) → n ≤ 72 → letter_by None n ≡ Some x → Good x
+good_alone n x m e = record { number = grind (arith, nat_tests); most = grind (arith, nat_tests); mark = grind (arith, nat_tests) }
 
-good_alone : (t : Bool) (n : ℕ) (x : Letter) → n ≤ 72 → t ≡ eqb n 0 → cond t None (Some record { number = n; mark = 0 }) ≡ Some x → Good x
-good_alone true n x m q e = let z : ◌≡◌ {A = ℕ} 0 1 = cc in absurd (omega arith)
-good_alone false n x m q e = subst Good (ap letter_or e) record { number = grind (arith, nat_tests); most = m; mark = omega arith }
-
-good_by : (c : ℕ) (o : Option (ℕ × ℕ)) (n : ℕ) (x : Letter) → n ≤ 72 → canonical c ≡ o → letter_by o n ≡ Some x → Good x
-good_by c None n x m q e = good_alone (eqb n 0) n x m refl e
-good_by c (Some p) n x m q e =
+good_by : (c : ℕ) (o : Option (ℕ × ℕ)) (x : Letter) → canonical c ≡ o → letter_by o (letter_number c) ≡ Some x → Good x
+good_by c None x q e = good_alone (letter_number c) x (number_most c) e
+good_by c (Some p) x q e =
     let f = table_facts c p.0 p.1 q in
-    subst Good (ap letter_or e) record { number = omega (arith, f.plain, f.least); most = omega (arith, f.plain, f.most); mark = mark_most p.1 }
+    let l : x ≡ record { number = plain_number p.0; mark = mark_number p.1 } = cc in
+    subst Good (sym l) record { number = omega (arith, f.plain, f.least); most = omega (arith, f.plain, f.most); mark = mark_most p.1 }
 
 pub letter_good : (c : ℕ) (x : Letter) → letter_of c ≡ Some x → Good x
 unfolding letter_of
-letter_good c x e = good_by c (canonical c) (letter_number c) x (number_most c) refl e
+letter_good c x e = good_by c (canonical c) x refl e
 
 -- a letter's digit, as it is written in the table and as it is computed
-pub digit_some : (o : Option Letter) → ((x : Letter) → o ≡ Some x → Good x) → unless_zero (digit_by o) ≡ option_map digit o
+digit_some : (o : Option Letter) → ((x : Letter) → o ≡ Some x → Good x) → unless_zero (digit_by o) ≡ option_map digit o
 digit_some None g = refl
-digit_some (Some x) g = let n : 1 ≤ x.number = (g x refl).number in let t : eqb (digit x) 0 ≡ false = grind (arith, nat_tests) in rw t refl
+digit_some (Some x) g = grind (arith, nat_tests, (g x refl).number)
 
 pub digit_in_table : (t : List ℕ) (c : ℕ) → TableRule t → 192 ≤ c → c ≤ 383 → unless_zero (slice_index t (c - 192)) ≡ option_map digit (letter_of c)
 digit_in_table t c r h k = ap unless_zero (table_gives t c r h k) ∙ digit_some (letter_of c) (letter_good c)
@@ -56,45 +51,32 @@ digit_none c h o = sym (digit_outside c o ∙ ap (λ n. option_map digit (letter
 
 -- the two ways of a step
 pub by_mark : (xs : List Letter) (c p : ℕ) → 0 < mark_number c → stepped xs c p ≡ marked xs (mark_number c) p
-by_mark xs c p h = let t : ltb 0 (mark_number c) ≡ true = grind (arith, nat_tests) in rw t
+by_mark xs c p h = grind (arith, nat_tests)
 
 pub by_letter : (xs : List Letter) (c p : ℕ) → mark_number c ≡ 0 → stepped xs c p ≡ lettered xs (letter_of c) p
-by_letter xs c p h = let t : ltb 0 (mark_number c) ≡ false = grind (arith, nat_tests) in rw t
+by_letter xs c p h = grind (arith, nat_tests)
 
 -- a digit and its letter
-pub letter_digit : (x : Letter) → Good x → letter_at (digit x) ≡ x
-letter_digit x g =
-    let n : (x.number * 14 + x.mark) / 14 ≡ x.number = omega (arith, g.mark) in
-    let m : (x.number * 14 + x.mark) % 14 ≡ x.mark = omega (arith, g.mark) in
-    let made : ℕ → ℕ → Letter = λ p q. record { number = p; mark = q } in
-    ap (λ p. made p ((x.number * 14 + x.mark) % 14)) n ∙ ap (made x.number) m
+letter_digit : (x : Letter) → Good x → letter_at (digit x) ≡ x
+letter_digit x g = grind (arith, g.mark)
 
 pub digit_letter : (d : ℕ) → digit (letter_at d) ≡ d
 digit_letter d = omega arith
 
-pub letters_more : (ds : List ℕ) (d : ℕ) → letters_in (ds ++ d ∷ []) ≡ letter_at d ∷ letters_in ds
+letters_more : (ds : List ℕ) (d : ℕ) → letters_in (ds ++ d ∷ []) ≡ letter_at d ∷ letters_in ds
 unfolding letters_in
 letters_more ds d = ap reverse (map-append letter_at ds (d ∷ [])) ∙ reverse-append (map letter_at ds) (letter_at d ∷ [])
 
-pub letters_length : (ds : List ℕ) → length (letters_in ds) ≡ length ds
+letters_length : (ds : List ℕ) → length (letters_in ds) ≡ length ds
 unfolding letters_in
 letters_length ds = length-reverse (map letter_at ds) ∙ length-map ds letter_at
 
 -- a mark on the last letter
-bare_letter : (d : ℕ) → bare (letter_at d) ≡ bare_digit d
-bare_letter d = grind (arith, nat_tests)
+mark_last : (ds : List ℕ) (d m place : ℕ) → m ≤ 13 → bare_digit d ≡ true → marked (letters_in (ds ++ d ∷ [])) m place ≡ Ok (letters_in (ds ++ (d + m) ∷ []))
+mark_last ds d m place h t = rw (letters_more ds d, letters_more ds (d + m)) (grind (arith, nat_tests))
 
-pub mark_last : (ds : List ℕ) (d m place : ℕ) → m ≤ 13 → bare_digit d ≡ true → marked (letters_in (ds ++ d ∷ [])) m place ≡ Ok (letters_in (ds ++ (d + m) ∷ []))
-mark_last ds d m place h t =
-    let b : bare (letter_at d) ≡ true = bare_letter d ∙ t in
-    let n : (d + m) / 14 ≡ d / 14 = grind (arith, nat_tests) in
-    let k : (d + m) % 14 ≡ m = grind (arith, nat_tests) in
-    rw (letters_more ds d, letters_more ds (d + m), b, n, k) refl
-
-pub mark_loose : (ds : List ℕ) (d m place : ℕ) → bare_digit d ≡ false → marked (letters_in (ds ++ d ∷ [])) m place ≡ Err (fault LooseMark place)
-mark_loose ds d m place t =
-    let b : bare (letter_at d) ≡ false = bare_letter d ∙ t in
-    rw (letters_more ds d, b) refl
+mark_loose : (ds : List ℕ) (d m place : ℕ) → bare_digit d ≡ false → marked (letters_in (ds ++ d ∷ [])) m place ≡ Err (fault LooseMark place)
+mark_loose ds d m place t = rw (letters_more ds d) (grind (arith, nat_tests))
 
 -- the same of the last of some digits, which is written in its place
 last_split : (ds : List ℕ) (n d : ℕ) → length ds ≡ suc n → d ≡ get_or ds n d → ds ≡ take n ds ++ d ∷ []
@@ -130,13 +112,10 @@ mark_first [] m place h = refl
 mark_first (d ∷ ds) m place h = absurd (omega arith)
 
 pub letter_full : (ds : List ℕ) (d place : ℕ) → length ds ≡ 24 → lettered (letters_in ds) (Some (letter_at d)) place ≡ Err (fault Length place)
-letter_full ds d place h = let t : ltb (length (letters_in ds)) 24 ≡ false = rw (letters_length ds, h) refl in rw t
+letter_full ds d place h = grind (arith, nat_tests, letters_length ds)
 
 pub letter_fits : (ds : List ℕ) (d place : ℕ) → length ds < 24 → lettered (letters_in ds) (Some (letter_at d)) place ≡ Ok (letters_in (ds ++ d ∷ []))
-letter_fits ds d place h =
-    let n : length (letters_in ds) ≡ length ds = letters_length ds in
-    let t : ltb (length (letters_in ds)) 24 ≡ true = grind (arith, nat_tests) in
-    rw (t, letters_more ds d) refl
+letter_fits ds d place h = rw (letters_more ds d) (grind (arith, nat_tests, letters_length ds))
 
 -- what the two answers about a code point tell
 pub mark_is : (c m : ℕ) → unless_zero (mark_number c) ≡ Some m → (0 < m) × (m ≡ mark_number c)

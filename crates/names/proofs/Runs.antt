@@ -1,17 +1,14 @@
 -- The reader's turns.
-use Rattle.std.proofs.Common.{◌≡◌, ℕ, zero, suc, ◌+◌, ◌-◌, ◌<◌, ◌≤◌, List, [], ◌∷◌, map, reverse, length, get_or, Some, None, Ok, Err, Result, sym, refl, ap, ◌∙◌, arith}
+use Rattle.std.proofs.Common.{◌≡◌, ℕ, zero, suc, ◌+◌, ◌-◌, ◌<◌, ◌≤◌, List, [], ◌∷◌, map, reverse, length, get_or, Some, None, Ok, Err, sym, refl, ap, ◌∙◌, arith}
 use Rattle.std.proofs.lemmas.List.{reverse-reverse}
-use mathlib.Core.Path.{fun_ext}
-use Rattle.names.specs.declared.Fault.{Fault}
-use Rattle.names.specs.declared.Row.{Row}
 use Rattle.names.specs.declared.Reason.{Reason}
 use Rattle.names.specs.declared.Reason.TheVariants.{IllFormed, Length}
 use Rattle.names.specs.Utf8.{first}
-use Rattle.names.specs.Letters.{Letter, digit}
-use Rattle.names.specs.Reading.{fault, Done, Broken, Point, point_then, text_in, text_of, stepped, and_then, letters, packed, key_of, named, reading}
-use Rattle.names.specs.Progress.{letter_at, letters_in, went}
+use Rattle.names.specs.Letters.{digit}
+use Rattle.names.specs.Reading.{fault, Done, Broken, Point, point_then, text_in, text_of, stepped, and_then, letters, packed, named, reading}
+use Rattle.names.specs.Progress.{letter_at, letters_in}
 use Rattle.names.proofs.Points.{shorter}
-use Rattle.names.proofs.Rows.{digit_letter, letters_length}
+use Rattle.names.proofs.Rows.{digit_letter}
 
 -- where the reader is: what it has left to read, and what it holds
 pub record Going (bytes rest ds : List ℕ) : Type 0 where
@@ -33,7 +30,7 @@ pub record Turn (k p c : ℕ) (rest tail : List ℕ) : Type 0 where
 
 turn : (k p c : ℕ) (rest tail : List ℕ) → first rest ≡ Some (c, tail) → length rest ≤ k → Turn k p c rest tail
 unfolding text_in
-turn k p c [] tail e h = let z : ◌≡◌ {A = ℕ} 0 1 = cc in absurd (omega arith)
+turn k p c [] tail e h = cc
 turn zero p c (b ∷ bs) tail e h = absurd (omega arith)
 turn (suc k) p c (b ∷ bs) tail e h =
     let s : length tail < length (b ∷ bs) = shorter (b ∷ bs) tail c e in

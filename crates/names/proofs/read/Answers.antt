@@ -7,7 +7,6 @@ use Rattle.names.specs.Utf8.{first}
 use Rattle.names.specs.Reading.{fault}
 use Rattle.std.proofs.lemmas.Result.{err_from_is_err_and}
 use Rattle.names.specs.Progress.{went}
-use Rattle.names.proofs.Points.{shorter}
 use Rattle.names.proofs.Runs.{going_starts, going_on, faulty, ill_formed, empty, whole}
 use Rattle.names.proofs.read.Goals as goal
 

@@ -1,4 +1,4 @@
-use Rattle.std.proofs.Common.{◌≤◌, Some, ◌∙◌, sym, arith}
+use Rattle.std.proofs.Common.{◌∙◌, sym, arith}
 use Rattle.names.specs.Progress.{letters_in}
 use Rattle.names.proofs.Tables.{mark_most}
 use Rattle.names.proofs.Rows.{mark_is, by_none, lettered_by, by_letter, unlisted}

@@ -1,4 +1,4 @@
-use Rattle.std.proofs.Common.{rules, sym, ◌∙◌, arith}
+use Rattle.std.proofs.Common.{rules, sym, ◌∙◌}
 use Rattle.names.proofs.Rows.{last_marked, last_loose, mark_first}
 use Rattle.names.proofs.Row.push_mark.Goals as goal
 

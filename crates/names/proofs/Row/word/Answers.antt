@@ -1,4 +1,4 @@
-use Rattle.std.proofs.Common.{◌≡◌, ℕ, ◌+◌, ◌-◌, ◌<◌, suc, get_or, arith, rules, ◌∙◌, sym, ap}
+use Rattle.std.proofs.Common.{◌≡◌, ℕ, ◌-◌, ◌<◌, get_or, arith, rules, ◌∙◌, ap}
 use Rattle.names.proofs.Packing.{word_fits, word_more, word_whole, word_from}
 use Rattle.names.proofs.Row.word.Goals as goal
 

@@ -1,5 +1,4 @@
-use Rattle.std.proofs.Common.{rules, arith}
-use Rattle.std.proofs.lemmas.Bool.Decides.{nat_tests}
+use Rattle.std.proofs.Common.{rules}
 use Rattle.names.proofs.utf8.first.Goals as goal
 use Rattle.names.proofs.utf8.first.Goals.{in_default-via-then-this-lt194, in_default-via-else-this-lt194+then-this-lt224+then-this-lt1, in_default-via-else-this-lt194+else-this-lt224+then-this-lt240+then-this-lt2, in_default-via-in-224-to-239-len2-up+else-fits, in_default-via-else-this-lt194+else-this-lt224+else-this-lt240+then-this-lt245+then-this-lt3, in_default-via-in-240-to-244-len3-up+else-fits-2, in_default-via-else-this-lt194+else-this-lt224+else-this-lt240+else-this-lt245}
 
