@@ -1,12 +1,10 @@
 -- One more code point: what the reader's row then holds.
-use Rattle.std.proofs.Common.{◌≡◌, ℕ, ◌+◌, ◌-◌, ◌<◌, ◌≤◌, true, false, List, [], ◌∷◌, ◌++◌, map, reverse, length, slice_index, get_or, set, take, zero, suc, Some, None, Ok, Err, Option, sym, refl, ap, length-set, ◌∙◌, subst, arith}
+use Rattle.std.proofs.Common.{◌≡◌, ℕ, ◌+◌, ◌-◌, ◌<◌, ◌≤◌, true, false, List, [], ◌∷◌, ◌++◌, length, slice_index, get_or, set, take, zero, suc, Some, None, Ok, Err, Option, sym, refl, ap, ◌∙◌, subst, arith}
 use Rattle.std.proofs.lemmas.Bool.Decides.{nat_tests}
-use lib.ListN.{length-reverse, length-map}
-use Rattle.std.proofs.lemmas.List.{reverse-append, map-append}
+use Rattle.std.proofs.lemmas.Grind.{common_steps}
 use Rattle.std.specs.Option.{option_map}
 use Rattle.std.specs.List.{refill}
-use Rattle.arrayvec.proofs.ArrayVecLemmas.{items-with_items}
-use Rattle.names.specs.declared.Reason.TheVariants.{NotListed, LooseMark, Length}
+use Rattle.names.specs.declared.Reason.TheVariants.{LooseMark, Length}
 use Rattle.names.specs.Decomposition.{canonical}
 use Rattle.names.specs.Utf8.{inside}
 use Rattle.names.specs.Letters.{Letter, mark_number, letter_number, plain_number, letter_by, letter_of, digit, digit_by, TableRule}
@@ -65,11 +63,11 @@ digit_letter d = omega arith
 
 letters_more : (ds : List ℕ) (d : ℕ) → letters_in (ds ++ d ∷ []) ≡ letter_at d ∷ letters_in ds
 unfolding letters_in
-letters_more ds d = ap reverse (map-append letter_at ds (d ∷ [])) ∙ reverse-append (map letter_at ds) (letter_at d ∷ [])
+letters_more ds d = grind (arith, common_steps)
 
 letters_length : (ds : List ℕ) → length (letters_in ds) ≡ length ds
 unfolding letters_in
-letters_length ds = length-reverse (map letter_at ds) ∙ length-map ds letter_at
+letters_length ds = grind (arith, common_steps)
 
 -- a mark on the last letter
 mark_last : (ds : List ℕ) (d m place : ℕ) → m ≤ 13 → bare_digit d ≡ true → marked (letters_in (ds ++ d ∷ [])) m place ≡ Ok (letters_in (ds ++ (d + m) ∷ []))
@@ -80,10 +78,7 @@ mark_loose ds d m place t = rw (letters_more ds d) (grind (arith, nat_tests))
 
 -- the same of the last of some digits, which is written in its place
 last_split : (ds : List ℕ) (n d : ℕ) → length ds ≡ suc n → d ≡ get_or ds n d → ds ≡ take n ds ++ d ∷ []
-last_split (x ∷ []) zero d h e = ap (λ y. y ∷ []) (sym e)
-last_split (x ∷ ds) (suc n) d h e = ap (λ (v : List ℕ). x ∷ v) (last_split ds n d (omega arith) e)
-last_split (x ∷ y ∷ ds) zero d h e = cc
-last_split [] n d h e = cc
+last_split ds n d h e = grind (arith, common_steps)
 
 last_set : (ds : List ℕ) (n d : ℕ) → length ds ≡ suc n → set ds n d ≡ take n ds ++ d ∷ []
 last_set (x ∷ []) zero d h = refl
@@ -91,20 +86,16 @@ last_set (x ∷ ds) (suc n) d h = ap (λ (v : List ℕ). x ∷ v) (last_set ds n
 last_set (x ∷ y ∷ ds) zero d h = cc
 last_set [] n d h = cc
 
-last_marked_here : (ds : List ℕ) (d m place : ℕ) → m ≤ 13 → 0 < length ds → d ≡ get_or ds (length ds - 1) d → bare_digit d ≡ true → marked (letters_in ds) m place ≡ Ok (letters_in (refill (length ds) ds (set ds (length ds - 1) (d + m))))
-last_marked_here ds d m place h k e t =
-    let n : length ds ≡ suc (length ds - 1) = omega arith in
-    let w : refill (length ds) ds (set ds (length ds - 1) (d + m)) ≡ take (length ds - 1) ds ++ (d + m) ∷ [] =
-    items-with_items record { items = ds } (set ds (length ds - 1) (d + m)) (length-set ds (length ds - 1) (d + m)) ∙ last_set ds (length ds - 1) (d + m) n in
-    ap (λ (v : List ℕ). marked (letters_in v) m place) (last_split ds (length ds - 1) d n e)
-    ∙ mark_last (take (length ds - 1) ds) d m place h t
-    ∙ ap (λ (v : List ℕ). Ok (letters_in v)) (sym w)
+last_refill : (ds : List ℕ) (d : ℕ) → 0 < length ds → refill (length ds) ds (set ds (length ds - 1) d) ≡ take (length ds - 1) ds ++ d ∷ []
+last_refill ds d h = let e = last_set ds (length ds - 1) d (omega arith) in grind (arith, common_steps)
 
 pub last_marked : (ds bs : List ℕ) (d m place : ℕ) → bs ≡ ds → m ≤ 13 → 0 < length ds → d ≡ get_or ds (length ds - 1) d → bare_digit d ≡ true → marked (letters_in ds) m place ≡ Ok (letters_in (refill (length ds) ds (set bs (length bs - 1) (d + m))))
-last_marked ds bs d m place f h k e t = rw f (last_marked_here ds d m place h k e t)
+last_marked ds bs d m place f h k e t =
+    let s = last_split ds (length ds - 1) d (omega arith) e in
+    rw (f, last_refill ds (d + m) k) (ap (λ (v : List ℕ). marked (letters_in v) m place) s ∙ mark_last (take (length ds - 1) ds) d m place h t)
 
 pub last_loose : (ds : List ℕ) (d m place : ℕ) → 0 < length ds → d ≡ get_or ds (length ds - 1) d → bare_digit d ≡ false → marked (letters_in ds) m place ≡ Err (fault LooseMark place)
-last_loose ds d m place k e t = let n : length ds ≡ suc (length ds - 1) = omega arith in ap (λ (v : List ℕ). marked (letters_in v) m place) (last_split ds (length ds - 1) d n e) ∙ mark_loose (take (length ds - 1) ds) d m place t
+last_loose ds d m place k e t = ap (λ (v : List ℕ). marked (letters_in v) m place) (last_split ds (length ds - 1) d (omega arith) e) ∙ mark_loose (take (length ds - 1) ds) d m place t
 
 pub mark_first : (ds : List ℕ) (m place : ℕ) → length ds ≤ 0 → marked (letters_in ds) m place ≡ Err (fault LooseMark place)
 unfolding letters_in
@@ -120,13 +111,6 @@ letter_fits ds d place h = rw (letters_more ds d) (grind (arith, nat_tests, lett
 -- what the two answers about a code point tell
 pub mark_is : (c m : ℕ) → unless_zero (mark_number c) ≡ Some m → (0 < m) × (m ≡ mark_number c)
 mark_is c m e = (grind (arith, nat_tests), grind (arith, nat_tests))
-
-no_letter : (o : Option Letter) → option_map digit o ≡ None → o ≡ None
-no_letter None e = refl
-no_letter (Some x) e = cc
-
-pub unlisted : (xs : List Letter) (c place : ℕ) → option_map digit (letter_of c) ≡ None → lettered xs (letter_of c) place ≡ Err (fault NotListed place)
-unlisted xs c place e = ap (λ (o : Option Letter). lettered xs o place) (no_letter (letter_of c) e)
 
 pub by_none : (c : ℕ) → unless_zero (mark_number c) ≡ None → mark_number c ≡ 0
 by_none c e = grind (arith, nat_tests)

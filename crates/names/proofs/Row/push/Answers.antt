@@ -1,7 +1,6 @@
 use Rattle.std.proofs.Common.{◌∙◌, sym, arith}
-use Rattle.names.specs.Progress.{letters_in}
 use Rattle.names.proofs.Tables.{mark_most}
-use Rattle.names.proofs.Rows.{mark_is, by_none, lettered_by, by_letter, unlisted}
+use Rattle.names.proofs.Rows.{mark_is, by_none, lettered_by, by_letter}
 use Rattle.names.proofs.Row.push.Goals as goal
 
 pub push_mark-requires : goal.push_mark-requires
@@ -12,9 +11,3 @@ returns-in-None-Some c = λ place.
     by_letter _ c.args.c place (by_none c.args.c (sym c.mark_of.ensures ∙ c.in-None-Some.is-0))
     ∙ lettered_by _ c.args.c c.in-None-Some.digit place (sym c.digit_of.ensures ∙ c.in-None-Some.is-1)
     ∙ c.push_letter.ensures place
-
-pub returns-in-None-None : goal.returns-in-None-None
-returns-in-None-None c = λ place.
-    let xs = letters_in c.args.self.now.digits.items in
-    by_letter xs c.args.c place (by_none c.args.c (sym c.mark_of.ensures ∙ c.in-None-None.is-0))
-    ∙ unlisted xs c.args.c place (sym c.digit_of.ensures ∙ c.in-None-None.is-1)
