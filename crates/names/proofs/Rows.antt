@@ -58,9 +58,6 @@ by_letter xs c p h = grind (arith, nat_tests)
 letter_digit : (x : Letter) → Good x → letter_at (digit x) ≡ x
 letter_digit x g = grind (arith, g.mark)
 
-pub digit_letter : (d : ℕ) → digit (letter_at d) ≡ d
-digit_letter d = omega arith
-
 letters_more : (ds : List ℕ) (d : ℕ) → letters_in (ds ++ d ∷ []) ≡ letter_at d ∷ letters_in ds
 unfolding letters_in
 letters_more ds d = grind (arith, common_steps)

@@ -8,7 +8,6 @@ use Rattle.names.specs.Letters.{digit}
 use Rattle.names.specs.Reading.{fault, Done, Broken, Point, point_then, text_in, text_of, stepped, and_then, letters, packed, named, reading}
 use Rattle.names.specs.Progress.{letter_at, letters_in}
 use Rattle.names.proofs.Points.{shorter}
-use Rattle.names.proofs.Rows.{digit_letter}
 
 -- where the reader is: what it has left to read, and what it holds
 pub record Going (bytes rest ds : List ℕ) : Type 0 where
@@ -98,7 +97,7 @@ empty bytes rest (d ∷ ds) g h z = absurd (omega arith)
 
 digits_again : (ds : List ℕ) → map digit (map letter_at ds) ≡ ds
 digits_again [] = refl
-digits_again (d ∷ ds) = ap (λ x. x ∷ map digit (map letter_at ds)) (digit_letter d) ∙ ap (λ (v : List ℕ). d ∷ v) (digits_again ds)
+digits_again (d ∷ ds) = grind (arith, digits_again ds)
 
 pub whole : (bytes rest ds : List ℕ) (g : Going bytes rest ds) → length rest ≤ 0 → (length ds ≡ 0 → ⊥) → Ok (packed (λ k. get_or ds k 0)) ≡ reading bytes
 unfolding reading

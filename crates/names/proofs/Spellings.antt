@@ -1,10 +1,9 @@
 -- The letters of a text that is read spell its canonical decomposition, and the decomposition is read as the text is.
-use Rattle.std.proofs.Common.{◌≡◌, ℕ, zero, suc, ◌+◌, ◌-◌, ◌<◌, ◌≤◌, Bool, true, false, cond, ◌&&◌, ◌||◌, eqb, ltb, leb, ◌⊎◌, List, [], ◌∷◌, reverse, length, get_or, Some, None, Ok, Err, Option, Result, sym, refl, ap, ◌∙◌, subst, inl, inr, arith}
+use Rattle.std.proofs.Common.{◌≡◌, ℕ, zero, suc, ◌+◌, ◌-◌, ◌<◌, ◌≤◌, Bool, true, false, cond, ◌&&◌, ◌||◌, eqb, leb, ◌⊎◌, List, [], ◌∷◌, reverse, length, get_or, Some, None, Ok, Err, Option, Result, sym, refl, ap, ◌∙◌, subst, inl, inr, arith}
 use mathlib.Core.List.{reverse_aux}
 use lib.ListN.{length-reverse}
 use Rattle.std.proofs.lemmas.Bool.Decides.{nat_tests, eqb_tells, Decides-below_and}
 use Rattle.std.specs.Bool.{Decides}
-use Rattle.std.proofs.lemmas.Bool.{and_parts}
 use Rattle.names.specs.declared.Fault.{Fault}
 use Rattle.names.specs.Utf8.{inside}
 use Rattle.names.specs.Decomposition.{canonical, decomposed_to, decomposition}
@@ -47,8 +46,8 @@ abbrev pub list_in : List Letter → Result (List Letter) Fault → List Letter
 list_in d (Ok xs) = xs
 list_in d (Err f) = d
 
-nonzero : (n : ℕ) → 1 ≤ n → eqb n 0 ≡ false
-nonzero n h = grind (arith, nat_tests)
+letter_step : (xs : List Letter) (b : ℕ) (x : Letter) → length xs < 24 → mark_number b ≡ 0 → letter_of b ≡ Some x → stepped xs b 0 ≡ Ok (x ∷ xs)
+letter_step xs b x k z e = grind (arith, nat_tests)
 
 pub no_run : (xs ls : List Letter) (p : ℕ) → letters xs (Broken p) ≡ Ok ls → ⊥
 unfolding letters
@@ -71,8 +70,7 @@ unfolding letter_of
 base_letter c b m e =
     let f = table_facts c b m e in
     let o : inside 192 383 b ≡ false = grind (arith, nat_tests, f.base) in
-    let n : eqb (plain_number b) 0 ≡ false = nonzero (plain_number b) (omega (arith, f.plain, f.least)) in
-    ap (λ (v : Option (ℕ × ℕ)). letter_by v (letter_number b)) (canonical_outside b o) ∙ ap (letter_by None) f.plain ∙ rw n refl
+    grind (arith, nat_tests, canonical_outside b o, f.plain, f.least)
 
 read_two : (xs ys ls : List Letter) (c b m p : ℕ) (t : Text) → canonical c ≡ Some (b, m) → stepped xs c p ≡ Ok ys → letters ys t ≡ Ok ls → letters xs (Point b 0 (Point m 0 t)) ≡ Ok ls
 unfolding letters
@@ -80,8 +78,7 @@ read_two xs ys ls c b m p t e s h =
     let f = table_facts c b m e in
     let k = composed_step xs ys c p b m e s in
     let base : Letter = record { number = plain_number b; mark = 0 } in
-    let room : ltb (length xs) 24 ≡ true = grind (arith, nat_tests, k.room) in
-    let one : stepped xs b 0 ≡ Ok (base ∷ xs) = by_letter xs b 0 (mark_none b (omega (arith, f.base))) ∙ ap (λ (o : Option Letter). lettered xs o 0) (base_letter c b m e) ∙ rw room refl in
+    let one : stepped xs b 0 ≡ Ok (base ∷ xs) = letter_step xs b base k.room (mark_none b (omega (arith, f.base))) (base_letter c b m e) in
     let plain : bare base ≡ true = grind (arith, nat_tests, f.plain, f.least, f.most) in
     let two : stepped (base ∷ xs) m 0 ≡ Ok ys = by_mark (base ∷ xs) m 0 f.mark ∙ rw plain refl ∙ ap Ok (sym k.is) in
     ap (and_then (λ zs. letters zs (Point m 0 t))) one ∙ ap (and_then (λ zs. letters zs t)) two ∙ h
@@ -150,10 +147,7 @@ spell_composed : (c b m : ℕ) (ds : List ℕ) → canonical c ≡ Some (b, m) �
 unfolding spell
 spell_composed c b m ds e =
     let f = table_facts c b m e in
-    let k : letter_code (plain_number b) ≡ b = ap letter_code (sym f.plain) ∙ letter_code_lem b (omega (arith, f.least)) in
-    let n : eqb (mark_number m) 0 ≡ false = nonzero (mark_number m) f.mark in
-    let v : get_or marks (mark_number m - 1) 0 ≡ m = mark_code m f.mark in
-    rw (n, v, k) refl
+    grind (arith, nat_tests, f.plain, f.mark, f.least, letter_code_lem b (omega (arith, f.least)), mark_code m f.mark)
 
 spell_letter : (o : Option (ℕ × ℕ)) (c : ℕ) (ds : List ℕ) (x : Letter) → canonical c ≡ o → letter_of c ≡ Some x → spell x ds ≡ decomposed_to o c ds
 unfolding letter_of
@@ -164,11 +158,7 @@ spell_letter (Some v) c ds x e q =
 
 spell_mark : (x : Letter) (c : ℕ) (ds : List ℕ) → bare x ≡ true → 0 < mark_number c → spell record { number = x.number; mark = mark_number c } ds ≡ spell x (c ∷ ds)
 unfolding spell
-spell_mark x c ds b h =
-    let n : eqb (mark_number c) 0 ≡ false = nonzero (mark_number c) h in
-    let z : eqb x.mark 0 ≡ true = (and_parts (inside 5 56 x.number) (eqb x.mark 0) b).1 in
-    let v : get_or marks (mark_number c - 1) 0 ≡ c = mark_code c h in
-    rw (n, z, v) refl
+spell_mark x c ds b h = grind (arith, nat_tests, mark_code c h)
 
 -- letters with numbers and marks in range
 abbrev pub Fine : List Letter → Type 0
@@ -186,10 +176,7 @@ record Stepping (xs ys : List Letter) (c : ℕ) : Type 0 where
   spells : (ds : List ℕ) → spelled_back ys ds ≡ spelled_back xs (decomposed_to (canonical c) c ds)
 
 mark_outside : (c : ℕ) → 0 < mark_number c → canonical c ≡ None
-mark_outside c h =
-    let l : 768 ≤ c = mark_least c h in
-    let o : inside 192 383 c ≡ false = grind (arith, nat_tests) in
-    canonical_outside c o
+mark_outside c h = canonical_outside c (grind (arith, nat_tests, mark_least c h))
 
 remarked : (x : Letter) (xs : List Letter) (c : ℕ) → bare x ≡ true → 0 < mark_number c → Stepping (x ∷ xs) (record { number = x.number; mark = mark_number c } ∷ xs) c
 remarked x xs c b h = record {

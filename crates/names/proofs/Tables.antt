@@ -1,5 +1,5 @@
 -- The rule of the table of digits, by computed tests of the whole table, and what the canonical mappings keep to.
-use Rattle.std.proofs.Common.{◌≡◌, ℕ, zero, suc, ◌+◌, ◌-◌, ◌<◌, ◌≤◌, Bool, true, false, not, ◌&&◌, ◌||◌, eqb, ltb, List, [], ◌∷◌, length, get_or, Some, None, Option, refl, le_of_suc-le-suc, not-suc-le-zero, arith}
+use Rattle.std.proofs.Common.{◌≡◌, ℕ, zero, suc, ◌+◌, ◌-◌, ◌<◌, ◌≤◌, Bool, true, false, not, ◌&&◌, ◌||◌, eqb, ltb, List, [], ◌∷◌, length, get_or, Some, None, Option, refl, arith}
 use Rattle.std.proofs.lemmas.Bool.Decides.{nat_tests}
 use Rattle.std.proofs.lemmas.Bool.{and_parts}
 use Rattle.names.specs.Utf8.{inside}
@@ -17,31 +17,26 @@ distinct [] = true
 distinct (x ∷ xs) = (eqb x 0 || absent x xs) && distinct xs
 
 absent_at : (x : ℕ) (ys : List ℕ) → absent x ys ≡ true → (j : ℕ) → j < length ys → x ≡ get_or ys j 0 → ⊥
-absent_at x [] t j h e = absurd (not-suc-le-zero h)
+absent_at x [] t j h e = absurd (omega arith)
 absent_at x (y ∷ ys) t zero h e = grind (arith, nat_tests)
-absent_at x (y ∷ ys) t (suc j) h e = let r : absent x ys ≡ true = grind (arith, nat_tests) in absent_at x ys r j (le_of_suc-le-suc h) e
+absent_at x (y ∷ ys) t (suc j) h e = grind (arith, nat_tests, absent_at x ys)
 
 apart_from_test : (t : List ℕ) → distinct t ≡ true → (i j : ℕ) → i < j → j < length t → 0 < get_or t i 0 → get_or t i 0 ≡ get_or t j 0 → ⊥
-apart_from_test [] q i j l h p e = absurd (not-suc-le-zero h)
-apart_from_test (x ∷ xs) q i zero l h p e = absurd (not-suc-le-zero l)
-apart_from_test (x ∷ xs) q zero (suc j) l h p e = let r : absent x xs ≡ true = grind (arith, nat_tests) in absent_at x xs r j (le_of_suc-le-suc h) e
-apart_from_test (x ∷ xs) q (suc i) (suc j) l h p e = let r : distinct xs ≡ true = grind (arith, nat_tests) in apart_from_test xs r i j (le_of_suc-le-suc l) (le_of_suc-le-suc h) p e
+apart_from_test [] q i j l h p e = absurd (omega arith)
+apart_from_test (x ∷ xs) q i zero l h p e = absurd (omega arith)
+apart_from_test (x ∷ xs) q zero (suc j) l h p e = grind (arith, nat_tests, absent_at x xs)
+apart_from_test (x ∷ xs) q (suc i) (suc j) l h p e = grind (arith, nat_tests, apart_from_test xs)
 
 -- the entries are the digits of the code points from n on
 unfoldable pub right : ℕ → List ℕ → Bool
 right n [] = true
 right n (x ∷ xs) = eqb x (digit_by (letter_of n)) && right (suc n) xs
 
-tested : (x y : ℕ) → eqb x y ≡ true → x ≡ y
-tested x y e = grind (arith, nat_tests)
-
 each_from_test : (n : ℕ) (t : List ℕ) → right n t ≡ true → (i : ℕ) → i < length t → get_or t i 0 ≡ digit_by (letter_of (n + i))
 unfolding right
-each_from_test n [] q i h = absurd (not-suc-le-zero h)
-each_from_test n (x ∷ xs) q zero h = let z : n + 0 ≡ n = omega arith in rw z (tested _ _ (and_parts _ _ q).0)
-each_from_test n (x ∷ xs) q (suc i) h =
-    let z : n + suc i ≡ suc n + i = omega arith in
-    rw z (each_from_test (suc n) xs (and_parts (eqb x (digit_by (letter_of n))) _ q).1 i (le_of_suc-le-suc h))
+each_from_test n [] q i h = absurd (omega arith)
+each_from_test n (x ∷ xs) q zero h = grind (arith, nat_tests)
+each_from_test n (x ∷ xs) q (suc i) h = let z : n + suc i ≡ suc n + i = omega arith in rw z (grind (arith, nat_tests, each_from_test (suc n) xs))
 
 -- the tests compute
 pub table_rule : (t : List ℕ) → length t ≡ 192 → right 192 t ≡ true → distinct t ≡ true → TableRule t
