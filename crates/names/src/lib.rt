@@ -94,7 +94,7 @@ impl Key for Name {
     }
 }
 
-// By hand, and not derived: these impls state the order of the 24 digits, where a derive would state one of the private words.
+// By hand: these impls state the order of the 24 digits, where a derive would state one of the private words.
 impl PartialEq for Name {
     ghost eq = { λ x y. is_eq (name_order x y) };
 
@@ -165,7 +165,7 @@ impl Row {
         }
     }
 
-    // A letter without a mark after it yet.
+    // A letter, of which there may be 24.
     fn push_letter(&mut self, digit: u16) -> Result<(), Reason>
         ensures { (place : ℕ) → lettered (letters_in self.old.digits.items) (Some (letter_at digit)) place ≡ went self.new.digits.items place result }
     {
@@ -214,7 +214,7 @@ pub fn read(bytes: &[u8]) -> Result<Name, Fault>
         digits: ArrayVec::new(),
     };
     let mut rest = bytes;
-    // No iterator of code points: it would need a place of its own and an end after ill-formed bytes, which `?` is here.
+    // No iterator of code points: it would carry the place beside the bytes and have to stop after a refusal, as `?` does here.
     while !rest.is_empty() {
         let place = bytes.len() - rest.len();
         let (c, tail) = utf8::first(rest).ok_or(Fault {

@@ -32,7 +32,7 @@ fn low(b: u8) -> Option<u32>
     }
 }
 
-// Whether the first two bytes of a code point of three or four fit each other: no overlong form, no surrogate, nothing above 10FFFF.
+// Whether the first two bytes of three or four fit each other: no overlong form, no surrogate, nothing above 10FFFF.
 fn fits(b0: u8, b1: u8) -> bool
     ensures { result ≡ (fits3 b0 b1 || fits4 b0 b1) }
 {
