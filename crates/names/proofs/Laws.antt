@@ -24,8 +24,8 @@ name_in d (Ok x) = x
 name_in d (Err f) = d
 
 accepted_by : (o : Result (List Letter) Fault) (x : Name) → named o ≡ Ok x → (ls : List Letter) × (o ≡ Ok ls) × (x ≡ key_of ls)
-accepted_by (Err f) x e = let z : ◌≡◌ {A = ℕ} 0 1 = cc in absurd (omega arith)
-accepted_by (Ok []) x e = let z : ◌≡◌ {A = ℕ} 0 1 = cc in absurd (omega arith)
+accepted_by (Err f) x e = cc
+accepted_by (Ok []) x e = cc
 accepted_by (Ok (l ∷ ls)) x e = (l ∷ ls, refl, sym (ap (name_in x) e))
 
 accepted : (bs : List ℕ) (x : Name) → reading bs ≡ Ok x → Accepted bs x

@@ -2,7 +2,7 @@ pub mod Points
 pub mod Encodings
 pub mod Tables
 pub mod Rows
-pub mod Runs
 pub mod Spellings
 pub mod Packing
 pub mod Laws
+pub mod Runs

@@ -1,6 +1,5 @@
 -- The digits of a key are those that were packed into it, so letters and keys tell each other.
-use Rattle.std.proofs.Common.{◌≡◌, ℕ, zero, suc, ◌+◌, ◌*◌, ◌%◌, ◌<◌, ◌≤◌, List, [], ◌∷◌, map, length, get_or, sym, refl, ap, ◌∙◌, le_of_suc-le-suc, arith}
-use lib.Arith.{digits_div, digits_mod}
+use Rattle.std.proofs.Common.{◌≡◌, ℕ, zero, suc, ◌+◌, ◌*◌, ◌<◌, ◌≤◌, List, [], ◌∷◌, map, length, get_or, sym, refl, ap, ◌∙◌, le_of_suc-le-suc, arith}
 use Rattle.names.specs.Letters.{Letter, digit}
 use Rattle.names.specs.Reading.{word_at, packed, key_of}
 use Rattle.names.specs.Digits.{digits_of_word, digits_of}
@@ -8,14 +7,26 @@ use Rattle.names.specs.Law.{padded}
 use Rattle.names.proofs.Rows.{Good}
 use Rattle.names.proofs.Spellings.{Fine}
 
--- the last digit of a word
-peel : (n a x : ℕ) (ds : List ℕ) → x < 1024 → digits_of_word (suc n) (a * 1024 + x) ds ≡ digits_of_word n a (x ∷ ds)
-peel n a x ds h = ap (λ w. digits_of_word n w ((a * 1024 + x) % 1024 ∷ ds)) (digits_div a h) ∙ ap (λ y. digits_of_word n a (y ∷ ds)) (digits_mod a h)
+-- n digits from the i-th on, as one number
+abbrev pub word_from : (ℕ → ℕ) → ℕ → ℕ → ℕ
+word_from d i zero = 0
+word_from d i (suc n) = word_from d i n * 1024 + d (i + n)
+
+-- the largest number of n digits of 16 bits
+abbrev pub most : ℕ → ℕ
+most zero = 0
+most (suc n) = most n * 1024 + 65535
+
+most_rises : (m n : ℕ) → m ≤ n → most m ≤ most n
+most_rises zero n h = omega arith
+most_rises (suc m) zero h = absurd (omega arith)
+most_rises (suc m) (suc n) h = omega (arith, most_rises m n (omega arith))
+
+pub word_fits : (n w : ℕ) → n < 8 → w ≤ most n → w * 1024 + 65535 < 340282366920938463463374607431768211456
+word_fits n w h k = let m = most_rises n 7 (omega arith) in omega arith
 
 word_unpacks : (d : ℕ → ℕ) → ((k : ℕ) → d k < 1024) → (i : ℕ) (ds : List ℕ) → digits_of_word 7 (word_at d i) ds ≡ d i ∷ d (i + 1) ∷ d (i + 2) ∷ d (i + 3) ∷ d (i + 4) ∷ d (i + 5) ∷ d (i + 6) ∷ d (i + 7) ∷ ds
-word_unpacks d p i ds =
-    peel 6 _ (d (i + 7)) _ (p (i + 7)) ∙ peel 5 _ (d (i + 6)) _ (p (i + 6)) ∙ peel 4 _ (d (i + 5)) _ (p (i + 5)) ∙ peel 3 _ (d (i + 4)) _ (p (i + 4))
-    ∙ peel 2 _ (d (i + 3)) _ (p (i + 3)) ∙ peel 1 _ (d (i + 2)) _ (p (i + 2)) ∙ peel 0 _ (d (i + 1)) _ (p (i + 1))
+word_unpacks d p i ds = grind arith
 
 -- n digits from the i-th on
 abbrev row : (ℕ → ℕ) → ℕ → ℕ → List ℕ
@@ -29,16 +40,13 @@ packed_digits d p =
     ∙ ap (digits_of_word 7 (word_at d 0)) (word_unpacks d p 8 _)
     ∙ word_unpacks d p 0 _
 
+next : (i k : ℕ) (d : ℕ → ℕ) {v : ℕ} → d (i + suc k) ≡ v → d ((i + 1) + k) ≡ v
+next i k d e = let y : (i + 1) + k ≡ i + suc k = omega arith in ap d y ∙ e
+
 row_padded : (n i : ℕ) (d : ℕ → ℕ) (ds : List ℕ) → ((k : ℕ) → d (i + k) ≡ get_or ds k 0) → row d i n ≡ padded n ds
 row_padded zero i d ds h = refl
-row_padded (suc n) i d [] h =
-    let z : i + 0 ≡ i = omega arith in
-    ap (λ x. x ∷ row d (i + 1) n) (sym (ap d z) ∙ h 0)
-    ∙ ap (λ (v : List ℕ). 0 ∷ v) (row_padded n (i + 1) d [] (λ k. let y : (i + 1) + k ≡ i + suc k = omega arith in ap d y ∙ h (suc k)))
-row_padded (suc n) i d (x ∷ xs) h =
-    let z : i + 0 ≡ i = omega arith in
-    ap (λ x. x ∷ row d (i + 1) n) (sym (ap d z) ∙ h 0)
-    ∙ ap (λ (v : List ℕ). x ∷ v) (row_padded n (i + 1) d xs (λ k. let y : (i + 1) + k ≡ i + suc k = omega arith in ap d y ∙ h (suc k)))
+row_padded (suc n) i d [] h = grind (arith, h 0, row_padded n (i + 1) d [] (λ k. next i k d (h (suc k))))
+row_padded (suc n) i d (x ∷ xs) h = grind (arith, h 0, row_padded n (i + 1) d xs (λ k. next i k d (h (suc k))))
 
 digit_most : (ls : List Letter) → Fine ls → (k : ℕ) → get_or (map digit ls) k 0 < 1024
 digit_most [] f k = omega arith
@@ -52,11 +60,7 @@ key_digits ls f =
 
 -- letters by their digits
 letter_same : (x y : Letter) → Good x → Good y → digit x ≡ digit y → x ≡ y
-letter_same x y g h e =
-    let n : x.number ≡ y.number = omega (arith, g.mark, h.mark) in
-    let m : x.mark ≡ y.mark = omega (arith, g.mark, h.mark) in
-    let made : ℕ → ℕ → Letter = λ p q. record { number = p; mark = q } in
-    ap (λ p. made p x.mark) n ∙ ap (made y.number) m
+letter_same x y g h e = grind (arith, g.mark, h.mark)
 
 abbrev head_of : List ℕ → ℕ
 head_of [] = 0

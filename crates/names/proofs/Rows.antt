@@ -1,62 +1,16 @@
 -- One more code point: what the reader's row then holds.
-use Rattle.std.proofs.Common.{◌≡◌, ℕ, ◌+◌, ◌-◌, ◌<◌, ◌≤◌, Bool, true, false, cond, eqb, ltb, List, [], ◌∷◌, length, get_or, set, Some, None, Ok, Err, Option, Result, sym, refl, ap, ◌∙◌, subst, add-one, arith, length-set, get_or-set_same, set-set}
+use Rattle.std.proofs.Common.{◌≡◌, ℕ, ◌+◌, ◌-◌, ◌<◌, ◌≤◌, true, false, List, [], ◌∷◌, ◌++◌, length, slice_index, get_or, set, take, Some, None, Ok, Err, Option, sym, refl, ap, ◌∙◌, subst, arith, length-take-le}
 use Rattle.std.proofs.lemmas.Bool.Decides.{nat_tests}
-use Rattle.names.specs.declared.Fault.{Fault}
-use Rattle.names.specs.declared.Row.{Row}
-use Rattle.names.specs.declared.Reason.{Reason}
-use Rattle.names.specs.declared.Reason.TheVariants.{NotListed, LooseMark, Length}
+use Rattle.std.proofs.lemmas.Grind.{common_steps}
+use Rattle.std.specs.Option.{option_map}
+use Rattle.std.proofs.lemmas.List.{take_more, take_more_set}
+use Rattle.names.specs.declared.Reason.TheVariants.{LooseMark, Length}
 use Rattle.names.specs.Decomposition.{canonical}
-use Rattle.names.specs.Letters.{Letter, mark_number, letter_number, letter_by, letter_of, digit, digit_by, bare}
+use Rattle.names.specs.Utf8.{inside}
+use Rattle.names.specs.Letters.{Letter, mark_number, letter_number, plain_number, letter_by, letter_of, digit, digit_by, TableRule}
 use Rattle.names.specs.Reading.{fault, marked, lettered, stepped}
-use Rattle.names.specs.Progress.{bare_digit, laid, Holds, Ready, Follows, refused_by}
-use Rattle.names.proofs.Tables.{table_facts, mark_most, number_most}
-
-pub laid_length : (xs : List Letter) → length (laid xs) ≡ 24
-unfolding laid
-laid_length [] = refl
-laid_length (x ∷ xs) = length-set (laid xs) (length xs) (digit x) ∙ laid_length xs
-
-pub follows_ok : (o : Result (List Letter) Fault) (ys : List Letter) (s : Row) → o ≡ Ok ys → Holds ys s → Follows o (Ok s)
-follows_ok o ys s e h = subst (λ (r : Result (List Letter) Fault). Follows r (Ok s)) (sym e) h
-
-pub follows_err : (o : Result (List Letter) Fault) (f : Fault) → o ≡ Err f → Follows o (Err f)
-follows_err o f e = subst (λ (r : Result (List Letter) Fault). Follows r (Err f)) (sym e) refl
-
--- the two ways of a step
-pub by_mark : (xs : List Letter) (c p : ℕ) → 0 < mark_number c → stepped xs c p ≡ marked xs (mark_number c) p
-by_mark xs c p h = let t : ltb 0 (mark_number c) ≡ true = grind (arith, nat_tests) in rw t
-
-pub by_letter : (xs : List Letter) (c p : ℕ) → mark_number c ≡ 0 → stepped xs c p ≡ lettered xs (letter_of c) p
-by_letter xs c p h = let t : ltb 0 (mark_number c) ≡ false = grind (arith, nat_tests) in rw t
-
-relaid : (ds l : List ℕ) (i n a b m : ℕ) → ds ≡ set l n a → i ≡ n → n < length l → a + m ≡ b → set ds i (get_or ds i 0 + m) ≡ set l n b
-relaid ds l i n a b m e k h p = rw (e, k, get_or-set_same l n a 0 h, p) (set-set l n a b)
-
-pub push_mark : (xs : List Letter) (s : Row) (c p m : ℕ) → Holds xs s → m ≡ mark_number c → 0 < m → s.plain ≡ true → Follows (stepped xs c p) (Ok record { digits = set s.digits (s.count - 1) (get_or s.digits (s.count - 1) 0 + m); count = s.count; plain = false })
-unfolding laid
-push_mark [] s c p m h e l t = let u : true ≡ false = sym t ∙ h.plain in let z : ◌≡◌ {A = ℕ} 0 1 = cc in absurd (omega arith)
-push_mark (x ∷ xs) s c p m h e l t =
-    let b : bare x ≡ true = sym h.plain ∙ t in
-    let i : s.count - 1 ≡ length xs = omega (arith, h.count) in
-    let n : x.mark ≡ 0 = grind (arith, nat_tests) in
-    let len : length (laid xs) ≡ 24 = laid_length xs in
-    let k : length xs < length (laid xs) = omega (arith, h.most) in
-    let f : eqb m 0 ≡ false = grind (arith, nat_tests) in
-    let y : Letter = record { number = x.number; mark = m } in
-    let went : stepped (x ∷ xs) c p ≡ Ok (y ∷ xs) = by_mark (x ∷ xs) c p (omega arith) ∙ rw (b, ← e) refl in
-    follows_ok (stepped (x ∷ xs) c p) (y ∷ xs) _ went
-    record {
-      count = h.count;
-      most = h.most;
-      digits = relaid s.digits (laid xs) (s.count - 1) (length xs) (digit x) (digit y) m h.digits i k (omega arith);
-      plain = grind (arith, nat_tests);
-    }
-
-push_loose : (xs : List Letter) (s : Row) (c p m : ℕ) → Holds xs s → m ≡ mark_number c → 0 < m → s.plain ≡ false → Follows (stepped xs c p) (Err (fault LooseMark p))
-push_loose [] s c p m h e l t = follows_err _ _ (by_mark [] c p (omega arith))
-push_loose (x ∷ xs) s c p m h e l t =
-    let b : bare x ≡ false = sym h.plain ∙ t in
-    follows_err _ _ (by_mark (x ∷ xs) c p (omega arith) ∙ rw b refl)
+use Rattle.names.specs.Progress.{unless_zero, bare_digit, letter_at, letters_in}
+use Rattle.names.proofs.Tables.{table_facts, mark_most, number_most, table_gives, canonical_outside, number_outside}
 
 -- a listed letter has a number and at most the mark 13
 pub record Good (x : Letter) : Type 0 where
@@ -64,97 +18,93 @@ pub record Good (x : Letter) : Type 0 where
   pub most : x.number ≤ 72
   pub mark : x.mark ≤ 13
 
-abbrev letter_in : Option Letter → Letter
-letter_in None = record { number = 1; mark = 0 }
-letter_in (Some x) = x
+good_alone : (n : ℕ) (x : Letter) → n ≤ 72 → letter_by None n ≡ Some x → Good x
+good_alone n x m e = record { number = grind (arith, nat_tests); most = grind (arith, nat_tests); mark = grind (arith, nat_tests) }
 
-good_alone : (t : Bool) (n : ℕ) (x : Letter) → n ≤ 72 → t ≡ eqb n 0 → cond t None (Some record { number = n; mark = 0 }) ≡ Some x → Good x
-good_alone true n x m q e = let z : ◌≡◌ {A = ℕ} 0 1 = cc in absurd (omega arith)
-good_alone false n x m q e = subst Good (ap letter_in e) record { number = grind (arith, nat_tests); most = m; mark = omega arith }
-
-good_by : (c : ℕ) (o : Option (ℕ × ℕ)) (n : ℕ) (x : Letter) → n ≤ 72 → canonical c ≡ o → letter_by o n ≡ Some x → Good x
-good_by c None n x m q e = good_alone (eqb n 0) n x m refl e
-good_by c (Some p) n x m q e =
+good_by : (c : ℕ) (o : Option (ℕ × ℕ)) (x : Letter) → canonical c ≡ o → letter_by o (letter_number c) ≡ Some x → Good x
+good_by c None x q e = good_alone (letter_number c) x (number_most c) e
+good_by c (Some p) x q e =
     let f = table_facts c p.0 p.1 q in
-    subst Good (ap letter_in e) record { number = omega (arith, f.plain, f.least); most = omega (arith, f.plain, f.most); mark = mark_most p.1 }
+    let l : x ≡ record { number = plain_number p.0; mark = mark_number p.1 } = cc in
+    subst Good (sym l) record { number = omega (arith, f.plain, f.least); most = omega (arith, f.plain, f.most); mark = mark_most p.1 }
 
 pub letter_good : (c : ℕ) (x : Letter) → letter_of c ≡ Some x → Good x
 unfolding letter_of
-letter_good c x e = good_by c (canonical c) (letter_number c) x (number_most c) refl e
+letter_good c x e = good_by c (canonical c) x refl e
 
-bare_digit_lem : (x : Letter) → x.mark ≤ 13 → bare_digit (digit x) ≡ bare x
-bare_digit_lem x h = grind (arith, nat_tests)
+-- a letter's digit, as it is written in the table and as it is computed
+digit_some : (o : Option Letter) → ((x : Letter) → o ≡ Some x → Good x) → unless_zero (digit_by o) ≡ option_map digit o
+digit_some None g = refl
+digit_some (Some x) g = grind (arith, nat_tests, (g x refl).number)
 
-unlisted_by : (o : Option Letter) (xs : List Letter) (p : ℕ) → ((x : Letter) → o ≡ Some x → Good x) → digit_by o ≡ 0 → lettered xs o p ≡ Err (fault NotListed p)
-unlisted_by None xs p g e = refl
-unlisted_by (Some x) xs p g e = absurd (omega (arith, (g x refl).number))
+pub digit_in_table : (t : List ℕ) (c : ℕ) → TableRule t → 192 ≤ c → c ≤ 383 → unless_zero (slice_index t (c - 192)) ≡ option_map digit (letter_of c)
+digit_in_table t c r h k = ap unless_zero (table_gives t c r h k) ∙ digit_some (letter_of c) (letter_good c)
 
-push_unlisted : (xs : List Letter) (s : Row) (c p m d : ℕ) → m ≡ mark_number c → m ≤ 0 → d ≡ digit_by (letter_of c) → d ≡ 0 → Follows (stepped xs c p) (Err (fault NotListed p))
-push_unlisted xs s c p m d e l q z =
-    follows_err _ _ (by_letter xs c p (omega arith) ∙ unlisted_by (letter_of c) xs p (letter_good c) (sym q ∙ z))
+pub digit_outside : (c : ℕ) → inside 192 383 c ≡ false → option_map digit (letter_of c) ≡ option_map digit (letter_by None (letter_number c))
+unfolding letter_of
+digit_outside c o = rw (canonical_outside c o) refl
 
-long_by : (o : Option Letter) (xs : List Letter) (p : ℕ) → length xs ≡ 24 → (digit_by o ≡ 0 → ⊥) → lettered xs o p ≡ Err (fault Length p)
-long_by None xs p n z = absurd (z refl)
-long_by (Some x) xs p n z = let t : ltb (length xs) 24 ≡ false = grind (arith, nat_tests) in rw t
+pub digit_none : (c : ℕ) → 128 ≤ c → inside 192 383 c ≡ false → None ≡ option_map digit (letter_of c)
+digit_none c h o = sym (digit_outside c o ∙ ap (λ n. option_map digit (letter_by None n)) (number_outside c h o))
 
-push_long : (xs : List Letter) (s : Row) (c p m d : ℕ) → Holds xs s → m ≡ mark_number c → m ≤ 0 → d ≡ digit_by (letter_of c) → (d ≡ 0 → ⊥) → 24 ≤ s.count → Follows (stepped xs c p) (Err (fault Length p))
-push_long xs s c p m d h e l q z k =
-    follows_err _ _ (by_letter xs c p (omega arith) ∙ long_by (letter_of c) xs p (omega (arith, h.count, h.most)) (λ w. z (q ∙ w)))
+-- the two ways of a step
+pub by_mark : (xs : List Letter) (c p : ℕ) → 0 < mark_number c → stepped xs c p ≡ marked xs (mark_number c) p
+by_mark xs c p h = grind (arith, nat_tests)
 
-abbrev reason_in : Option Reason → Reason
-reason_in None = Length
-reason_in (Some r) = r
+pub by_letter : (xs : List Letter) (c p : ℕ) → mark_number c ≡ 0 → stepped xs c p ≡ lettered xs (letter_of c) p
+by_letter xs c p h = grind (arith, nat_tests)
 
-as_refused : (o : Result (List Letter) Fault) (r t : Reason) (p : ℕ) → Some r ≡ Some t → Follows o (Err (fault t p)) → Follows o (Err (fault r p))
-as_refused o r t p e h = subst (λ (v : Reason). Follows o (Err (fault v p))) (sym (ap reason_in e)) h
+-- a digit and its letter
+letter_digit : (x : Letter) → Good x → letter_at (digit x) ≡ x
+letter_digit x g = grind (arith, g.mark)
 
-refused_cases : (tm tp td tc : Bool) (xs : List Letter) (s : Row) (c p m d : ℕ) (r : Reason) → ltb 0 m ≡ tm → s.plain ≡ tp → eqb d 0 ≡ td → ltb s.count 24 ≡ tc → Holds xs s → m ≡ mark_number c → d ≡ digit_by (letter_of c) → Some r ≡ cond tm (cond tp None (Some LooseMark)) (cond td (Some NotListed) (cond tc None (Some Length))) → Follows (stepped xs c p) (Err (fault r p))
-refused_cases true true td tc xs s c p m d r x y z w h e q f = let n : ◌≡◌ {A = ℕ} 0 1 = cc in absurd (omega arith)
-refused_cases true false td tc xs s c p m d r x y z w h e q f = as_refused _ r LooseMark p f (push_loose xs s c p m h e (grind (arith, nat_tests)) y)
-refused_cases false tp true tc xs s c p m d r x y z w h e q f = as_refused _ r NotListed p f (push_unlisted xs s c p m d e (grind (arith, nat_tests)) q (grind (arith, nat_tests)))
-refused_cases false tp false true xs s c p m d r x y z w h e q f = let n : ◌≡◌ {A = ℕ} 0 1 = cc in absurd (omega arith)
-refused_cases false tp false false xs s c p m d r x y z w h e q f = as_refused _ r Length p f (push_long xs s c p m d h e (grind (arith, nat_tests)) q (grind (arith, nat_tests)) (grind (arith, nat_tests)))
+letters_more : (ds : List ℕ) (d : ℕ) → letters_in (ds ++ d ∷ []) ≡ letter_at d ∷ letters_in ds
+unfolding letters_in
+letters_more ds d = grind (arith, common_steps)
 
-pub push_refused : (xs : List Letter) (s : Row) (c p m d : ℕ) (r : Reason) → Holds xs s → m ≡ mark_number c → d ≡ digit_by (letter_of c) → Some r ≡ refused_by s.plain s.count m d → Follows (stepped xs c p) (Err (fault r p))
-push_refused xs s c p m d r = refused_cases (ltb 0 m) s.plain (eqb d 0) (ltb s.count 24) xs s c p m d r refl refl refl refl
+letters_length : (ds : List ℕ) → length (letters_in ds) ≡ length ds
+unfolding letters_in
+letters_length ds = grind (arith, common_steps)
 
--- what is known where nothing was refused
-pub mark_allowed : (plain : Bool) (count m d : ℕ) → None ≡ refused_by plain count m d → 0 < m → plain ≡ true
-mark_allowed plain count m d e h = grind (arith, nat_tests)
+-- a mark on the last letter
+mark_last : (ds : List ℕ) (d m place : ℕ) → m ≤ 13 → bare_digit d ≡ true → marked (letters_in (ds ++ d ∷ [])) m place ≡ Ok (letters_in (ds ++ (d + m) ∷ []))
+mark_last ds d m place h t = rw (letters_more ds d, letters_more ds (d + m)) (grind (arith, nat_tests))
 
-pub letter_allowed : (plain : Bool) (count m d : ℕ) → None ≡ refused_by plain count m d → m ≤ 0 → (d ≡ 0 → ⊥) × (count < 24)
-letter_allowed plain count m d e h = (λ z. grind (arith, nat_tests), grind (arith, nat_tests))
+mark_loose : (ds : List ℕ) (d m place : ℕ) → bare_digit d ≡ false → marked (letters_in (ds ++ d ∷ [])) m place ≡ Err (fault LooseMark place)
+mark_loose ds d m place t = rw (letters_more ds d) (grind (arith, nat_tests))
 
-letter_by_lem : (o : Option Letter) (xs : List Letter) (s : Row) (p d : ℕ) (b : Bool) → ((x : Letter) → o ≡ Some x → Good x) → Holds xs s → d ≡ digit_by o → (d ≡ 0 → ⊥) → s.count < 24 → b ≡ bare_digit d → Follows (lettered xs o p) (Ok record { digits = set s.digits s.count d; count = s.count + 1; plain = b })
-unfolding laid
-letter_by_lem None xs s p d b g h q z k v = absurd (z q)
-letter_by_lem (Some x) xs s p d b g h q z k v =
-    let i : s.count ≡ length xs = h.count in
-    let t : ltb (length xs) 24 ≡ true = grind (arith, nat_tests) in
-    follows_ok (lettered xs (Some x) p) (x ∷ xs) _ (rw t refl)
-    record {
-      count = rw i (add-one (length xs));
-      most = omega (arith, h.most);
-      digits = rw (h.digits, i, q) refl;
-      plain = v ∙ ap bare_digit q ∙ bare_digit_lem x (g x refl).mark;
-    }
+-- the same of a row, whose n-th digit is its last one
+pub last_marked : (xs : List ℕ) (k n m place : ℕ) → k ≡ n + 1 → n < length xs → m ≤ 13 → bare_digit (get_or xs n 0) ≡ true
+    → marked (letters_in (take k xs)) m place ≡ Ok (letters_in (take k (set xs n (get_or xs n 0 + m))))
+last_marked xs k n m place e h l t =
+    rw (e, take_more xs n 0 h, take_more_set xs n (get_or xs n 0 + m) h) (mark_last (take n xs) (get_or xs n 0) m place l t)
 
-pub push_letter : (xs : List Letter) (s : Row) (c p m d : ℕ) (b : Bool) → Holds xs s → m ≡ mark_number c → m ≤ 0 → d ≡ digit_by (letter_of c) → (d ≡ 0 → ⊥) → s.count < 24 → b ≡ bare_digit d → Follows (stepped xs c p) (Ok record { digits = set s.digits s.count d; count = s.count + 1; plain = b })
-push_letter xs s c p m d b h e l q z k v =
-    rw (by_letter xs c p (omega arith)) (letter_by_lem (letter_of c) xs s p d b (letter_good c) h q z k v)
+pub last_loose : (xs : List ℕ) (k n m place : ℕ) → k ≡ n + 1 → n < length xs → bare_digit (get_or xs n 0) ≡ false → marked (letters_in (take k xs)) m place ≡ Err (fault LooseMark place)
+last_loose xs k n m place e h t = rw (e, take_more xs n 0 h) (mark_loose (take n xs) (get_or xs n 0) m place t)
 
--- the last digit, where it is plain
-last_by : (xs : List Letter) (s : Row) → Holds xs s → s.plain ≡ true → (1 ≤ s.count) × (s.count ≤ 24) × (get_or s.digits (s.count - 1) 0 ≤ 784)
-unfolding laid
-last_by [] s h t = let u : true ≡ false = sym t ∙ h.plain in let z : ◌≡◌ {A = ℕ} 0 1 = cc in absurd (omega arith)
-last_by (x ∷ xs) s h t =
-    let b : bare x ≡ true = sym h.plain ∙ t in
-    let i : s.count - 1 ≡ length xs = omega (arith, h.count) in
-    let most : digit x ≤ 784 = grind (arith, nat_tests) in
-    let len : length (laid xs) ≡ 24 = laid_length xs in
-    let k : length xs < length (laid xs) = omega (arith, h.most) in
-    let v : get_or s.digits (s.count - 1) 0 ≡ digit x = rw (h.digits, i) (get_or-set_same (laid xs) (length xs) (digit x) 0 k) in
-    (omega (arith, h.count), omega (arith, h.count, h.most), omega arith)
+pub mark_first : (ds : List ℕ) (m place : ℕ) → length ds ≤ 0 → marked (letters_in ds) m place ≡ Err (fault LooseMark place)
+unfolding letters_in
+mark_first [] m place h = refl
+mark_first (d ∷ ds) m place h = absurd (omega arith)
 
-pub last_plain : (s : Row) → Ready s → s.plain ≡ true → (1 ≤ s.count) × (s.count ≤ 24) × (get_or s.digits (s.count - 1) 0 ≤ 784)
-last_plain s r t = last_by r.0 s r.1 t
+pub letter_full : (ds : List ℕ) (d place : ℕ) → length ds ≡ 24 → lettered (letters_in ds) (Some (letter_at d)) place ≡ Err (fault Length place)
+letter_full ds d place h = grind (arith, nat_tests, letters_length ds)
+
+pub letter_fits : (xs : List ℕ) (n d place : ℕ) → n < length xs → n < 24 → lettered (letters_in (take n xs)) (Some (letter_at d)) place ≡ Ok (letters_in (take (n + 1) (set xs n d)))
+letter_fits xs n d place h l =
+    let e : length (letters_in (take n xs)) ≡ n = letters_length (take n xs) ∙ length-take-le n xs (omega arith) in
+    rw (take_more_set xs n d h, letters_more (take n xs) d) (grind (arith, nat_tests))
+
+-- what the two answers about a code point tell
+pub mark_is : (c m : ℕ) → unless_zero (mark_number c) ≡ Some m → (0 < m) × (m ≡ mark_number c)
+mark_is c m e = (grind (arith, nat_tests), grind (arith, nat_tests))
+
+pub by_none : (c : ℕ) → unless_zero (mark_number c) ≡ None → mark_number c ≡ 0
+by_none c e = grind (arith, nat_tests)
+
+letter_of_digit : (o : Option Letter) (d : ℕ) → ((x : Letter) → o ≡ Some x → Good x) → option_map digit o ≡ Some d → o ≡ Some (letter_at d)
+letter_of_digit None d g e = cc
+letter_of_digit (Some x) d g e = let y : digit x ≡ d = cc in ap Some (sym (letter_digit x (g x refl)) ∙ ap letter_at y)
+
+pub lettered_by : (xs : List Letter) (c d place : ℕ) → option_map digit (letter_of c) ≡ Some d → lettered xs (letter_of c) place ≡ lettered xs (Some (letter_at d)) place
+lettered_by xs c d place e = ap (λ (o : Option Letter). lettered xs o place) (letter_of_digit (letter_of c) d (letter_good c) e)

@@ -1,16 +1,16 @@
 -- The letters of a text that is read spell its canonical decomposition, and the decomposition is read as the text is.
-use Rattle.std.proofs.Common.{◌≡◌, ℕ, zero, suc, ◌+◌, ◌-◌, ◌<◌, ◌≤◌, Bool, true, false, cond, ◌&&◌, ◌||◌, eqb, ltb, leb, ◌⊎◌, List, [], ◌∷◌, reverse, length, get_or, Some, None, Ok, Err, Option, Result, sym, refl, ap, ◌∙◌, subst, inl, inr, not-suc-le-zero, arith}
+use Rattle.std.proofs.Common.{◌≡◌, ℕ, zero, suc, ◌+◌, ◌-◌, ◌<◌, ◌≤◌, Bool, true, false, cond, ◌&&◌, ◌||◌, eqb, leb, ◌⊎◌, List, [], ◌∷◌, reverse, length, get_or, Some, None, Ok, Err, Option, Result, sym, refl, ap, ◌∙◌, subst, inl, inr, arith}
 use mathlib.Core.List.{reverse_aux}
 use lib.ListN.{length-reverse}
-use Rattle.std.proofs.lemmas.Bool.Decides.{nat_tests, leb_tells, eqb_tells}
+use Rattle.std.proofs.lemmas.Bool.Decides.{nat_tests, eqb_tells, Decides-below_and}
+use Rattle.std.specs.Bool.{Decides}
 use Rattle.names.specs.declared.Fault.{Fault}
-use Rattle.names.specs.declared.Reason.TheVariants.{IllFormed, NotListed, LooseMark, Length}
 use Rattle.names.specs.Utf8.{inside}
 use Rattle.names.specs.Decomposition.{canonical, decomposed_to, decomposition}
-use Rattle.names.specs.Letters.{Letter, place_in, marks, mark_number, singles, plain_number, letter_number, letter_by, letter_of, bare}
-use Rattle.names.specs.Reading.{fault, Text, Done, Broken, Point, marked, lettered, stepped, and_then, letters}
+use Rattle.names.specs.Letters.{Letter, marks, mark_number, singles, plain_number, letter_number, letter_by, letter_of, bare}
+use Rattle.names.specs.Reading.{Text, Done, Broken, Point, marked, lettered, stepped, and_then, letters}
 use Rattle.names.specs.Law.{points_of}
-use Rattle.names.proofs.Tables.{and_right, table_facts, mark_most, mark_least, canonical_outside, number_outside}
+use Rattle.names.proofs.Tables.{table_facts, mark_most, mark_least, canonical_outside}
 use Rattle.names.proofs.Rows.{Good, letter_good, by_mark, by_letter}
 
 -- a run of letters that ends well goes well at its first code point
@@ -21,7 +21,7 @@ pub record Went (xs : List Letter) (c p : ℕ) (t : Text) (ls : List Letter) : T
 
 went_by : (o : Result (List Letter) Fault) (t : Text) (ls : List Letter) → and_then (λ ys. letters ys t) o ≡ Ok ls → (ys : List Letter) × (o ≡ Ok ys) × (letters ys t ≡ Ok ls)
 went_by (Ok ys) t ls e = (ys, refl, e)
-went_by (Err f) t ls e = let z : ◌≡◌ {A = ℕ} 0 1 = cc in absurd (omega arith)
+went_by (Err f) t ls e = cc
 
 pub went : (xs : List Letter) (c p : ℕ) (t : Text) (ls : List Letter) → letters xs (Point c p t) ≡ Ok ls → Went xs c p t ls
 unfolding letters
@@ -33,27 +33,9 @@ unplaced [] = Done
 unplaced (c ∷ cs) = Point c 0 (unplaced cs)
 
 -- a step that goes well does so at any place
-cond_free : (b : Bool) (o f g : Result (List Letter) Fault) (ys : List Letter) → ((ys : List Letter) → f ≡ Ok ys → ⊥) → cond b o f ≡ Ok ys → cond b o g ≡ Ok ys
-cond_free true o f g ys n e = e
-cond_free false o f g ys n e = absurd (n ys e)
-
-no_err : (f : Fault) (ys : List Letter) → Err f ≡ Ok ys → ⊥
-no_err f ys e = let z : ◌≡◌ {A = ℕ} 0 1 = cc in omega arith
-
-marked_free : (xs ys : List Letter) (m p q : ℕ) → marked xs m p ≡ Ok ys → marked xs m q ≡ Ok ys
-marked_free [] ys m p q e = let z : ◌≡◌ {A = ℕ} 0 1 = cc in absurd (omega arith)
-marked_free (x ∷ xs) ys m p q e = cond_free (bare x) (Ok (record { number = x.number; mark = m } ∷ xs)) (Err (fault LooseMark p)) (Err (fault LooseMark q)) ys (no_err (fault LooseMark p)) e
-
-lettered_free : (xs ys : List Letter) (o : Option Letter) (p q : ℕ) → lettered xs o p ≡ Ok ys → lettered xs o q ≡ Ok ys
-lettered_free xs ys None p q e = let z : ◌≡◌ {A = ℕ} 0 1 = cc in absurd (omega arith)
-lettered_free xs ys (Some x) p q e = cond_free (ltb (length xs) 24) (Ok (x ∷ xs)) (Err (fault Length p)) (Err (fault Length q)) ys (no_err (fault Length p)) e
-
-step_by : (b : Bool) (xs ys : List Letter) (m : ℕ) (o : Option Letter) (p q : ℕ) → cond b (marked xs m p) (lettered xs o p) ≡ Ok ys → cond b (marked xs m q) (lettered xs o q) ≡ Ok ys
-step_by true xs ys m o p q e = marked_free xs ys m p q e
-step_by false xs ys m o p q e = lettered_free xs ys o p q e
-
 step_free : (xs ys : List Letter) (c p q : ℕ) → stepped xs c p ≡ Ok ys → stepped xs c q ≡ Ok ys
-step_free xs ys c p q e = step_by (ltb 0 (mark_number c)) xs ys (mark_number c) (letter_of c) p q e
+step_free [] ys c p q e = grind (arith, nat_tests)
+step_free (x ∷ xs) ys c p q e = grind (arith, nat_tests)
 
 -- the canonical decomposition of a text that is read is read as the text is
 record Composed (xs ys : List Letter) (b m : ℕ) : Type 0 where
@@ -64,29 +46,15 @@ abbrev pub list_in : List Letter → Result (List Letter) Fault → List Letter
 list_in d (Ok xs) = xs
 list_in d (Err f) = d
 
-room_by : (t : Bool) (xs ys zs : List Letter) (p : ℕ) → t ≡ ltb (length xs) 24 → cond t (Ok zs) (Err (fault Length p)) ≡ Ok ys → (length xs < 24) × (ys ≡ zs)
-room_by true xs ys zs p q e = (grind (arith, nat_tests), sym (ap (list_in []) e))
-room_by false xs ys zs p q e = absurd (no_err (fault Length p) ys e)
-
-mark_by : (n : ℕ) {c : ℕ} → (0 < n → 768 ≤ c) → c ≤ 767 → n ≡ 0
-mark_by zero f h = refl
-mark_by (suc n) f h = absurd (omega (arith, f (omega arith)))
-
-nonzero : (n : ℕ) → 1 ≤ n → eqb n 0 ≡ false
-nonzero n h = grind (arith, nat_tests)
-
-fits : (n : ℕ) → n < 24 → ltb n 24 ≡ true
-fits n h = grind (arith, nat_tests)
-
-bare_base : (n : ℕ) → 5 ≤ n → n ≤ 56 → bare record { number = n; mark = 0 } ≡ true
-bare_base n h k = grind (arith, nat_tests)
+letter_step : (xs : List Letter) (b : ℕ) (x : Letter) → length xs < 24 → mark_number b ≡ 0 → letter_of b ≡ Some x → stepped xs b 0 ≡ Ok (x ∷ xs)
+letter_step xs b x k z e = grind (arith, nat_tests)
 
 pub no_run : (xs ls : List Letter) (p : ℕ) → letters xs (Broken p) ≡ Ok ls → ⊥
 unfolding letters
-no_run xs ls p e = no_err (fault IllFormed p) ls e
+no_run xs ls p e = cc
 
 mark_none : (c : ℕ) → c ≤ 767 → mark_number c ≡ 0
-mark_none c h = mark_by (mark_number c) (mark_least c) h
+mark_none c h = grind (arith, mark_least c)
 
 composed_step : (xs ys : List Letter) (c p b m : ℕ) → canonical c ≡ Some (b, m) → stepped xs c p ≡ Ok ys → Composed xs ys b m
 unfolding letter_of
@@ -94,16 +62,15 @@ composed_step xs ys c p b m e s =
     let f = table_facts c b m e in
     let z : mark_number c ≡ 0 = mark_none c (omega (arith, f.high)) in
     let l : letter_of c ≡ Some record { number = plain_number b; mark = mark_number m } = ap (λ (o : Option (ℕ × ℕ)). letter_by o (letter_number c)) e in
-    let w = room_by (ltb (length xs) 24) xs ys (record { number = plain_number b; mark = mark_number m } ∷ xs) p refl (sym (ap (λ (o : Option Letter). lettered xs o p) l) ∙ sym (by_letter xs c p z) ∙ s) in
-    record { room = w.0; is = w.1 }
+    let w : lettered xs (Some record { number = plain_number b; mark = mark_number m }) p ≡ Ok ys = sym (ap (λ (o : Option Letter). lettered xs o p) l) ∙ sym (by_letter xs c p z) ∙ s in
+    record { room = grind (arith, nat_tests, w); is = grind (arith, nat_tests, w) }
 
 base_letter : (c b m : ℕ) → canonical c ≡ Some (b, m) → letter_of b ≡ Some record { number = plain_number b; mark = 0 }
 unfolding letter_of
 base_letter c b m e =
     let f = table_facts c b m e in
     let o : inside 192 383 b ≡ false = grind (arith, nat_tests, f.base) in
-    let n : eqb (plain_number b) 0 ≡ false = nonzero (plain_number b) (omega (arith, f.plain, f.least)) in
-    ap (λ (v : Option (ℕ × ℕ)). letter_by v (letter_number b)) (canonical_outside b o) ∙ ap (letter_by None) f.plain ∙ rw n refl
+    grind (arith, nat_tests, canonical_outside b o, f.plain, f.least)
 
 read_two : (xs ys ls : List Letter) (c b m p : ℕ) (t : Text) → canonical c ≡ Some (b, m) → stepped xs c p ≡ Ok ys → letters ys t ≡ Ok ls → letters xs (Point b 0 (Point m 0 t)) ≡ Ok ls
 unfolding letters
@@ -111,9 +78,8 @@ read_two xs ys ls c b m p t e s h =
     let f = table_facts c b m e in
     let k = composed_step xs ys c p b m e s in
     let base : Letter = record { number = plain_number b; mark = 0 } in
-    let room : ltb (length xs) 24 ≡ true = fits (length xs) k.room in
-    let one : stepped xs b 0 ≡ Ok (base ∷ xs) = by_letter xs b 0 (mark_none b (omega (arith, f.base))) ∙ ap (λ (o : Option Letter). lettered xs o 0) (base_letter c b m e) ∙ rw room refl in
-    let plain : bare base ≡ true = bare_base (plain_number b) (omega (arith, f.plain, f.least)) (omega (arith, f.plain, f.most)) in
+    let one : stepped xs b 0 ≡ Ok (base ∷ xs) = letter_step xs b base k.room (mark_none b (omega (arith, f.base))) (base_letter c b m e) in
+    let plain : bare base ≡ true = grind (arith, nat_tests, f.plain, f.least, f.most) in
     let two : stepped (base ∷ xs) m 0 ≡ Ok ys = by_mark (base ∷ xs) m 0 f.mark ∙ rw plain refl ∙ ap Ok (sym k.is) in
     ap (and_then (λ zs. letters zs (Point m 0 t))) one ∙ ap (and_then (λ zs. letters zs t)) two ∙ h
 
@@ -149,94 +115,50 @@ spelled_reverse : (xs r : List Letter) → spelled (reverse_aux xs r) ≡ spelle
 spelled_reverse [] r = refl
 spelled_reverse (x ∷ xs) r = spelled_reverse xs (x ∷ r)
 
-place_by : (t : Bool) (n r : ℕ) → (r ≡ 0) ⊎ (n + 1 ≤ r) → (cond t n r ≡ 0) ⊎ (n ≤ cond t n r)
-place_by true n r h = inr (omega arith)
-place_by false n r (inl h) = inl h
-place_by false n r (inr h) = inr (omega arith)
-
-code_by : (t : Bool) (n r c x : ℕ) (xs : List ℕ) → 1 ≤ n → t ≡ eqb c x → (r ≡ 0) ⊎ (n + 1 ≤ r) → (0 < r → get_or xs (r - (n + 1)) 0 ≡ c) → 0 < cond t n r → get_or (x ∷ xs) (cond t n r - n) 0 ≡ c
-code_by true n r c x xs h q p f k = let z : n - n ≡ 0 = omega arith in let e : c ≡ x = grind (arith, nat_tests) in rw z (sym e)
-code_by false n r c x xs h q (inl p) f k = absurd (omega arith)
-code_by false n r c x xs h q (inr p) f k = let z : r - n ≡ suc (r - (n + 1)) = omega arith in rw z (f (omega arith))
-
-place_least : (n : ℕ) (l : List ℕ) (c : ℕ) → (place_in n l c ≡ 0) ⊎ (n ≤ place_in n l c)
-place_least n [] c = inl refl
-place_least n (x ∷ xs) c = place_by (eqb c x) n (place_in (n + 1) xs c) (place_least (n + 1) xs c)
-
-place_code : (n : ℕ) (l : List ℕ) (c : ℕ) → 1 ≤ n → 0 < place_in n l c → get_or l (place_in n l c - n) 0 ≡ c
-place_code n [] c h k = absurd (omega arith)
-place_code n (x ∷ xs) c h k = code_by (eqb c x) n (place_in (n + 1) xs c) c x xs h refl (place_least (n + 1) xs c) (place_code (n + 1) xs c (omega arith)) k
-
 mark_code : (c : ℕ) → 0 < mark_number c → get_or marks (mark_number c - 1) 0 ≡ c
 unfolding mark_number
-mark_code c h = place_code 1 marks c (omega arith) h
+mark_code c h = grind (arith, nat_tests)
 
 -- a letter's code point is found again, by one computed test
 abbrev below : (ℕ → Bool) → ℕ → Bool
 below f zero = true
 below f (suc n) = f n && below f n
 
-below_by : (f : ℕ → Bool) (n i : ℕ) (s t : Bool) → f n ≡ s → (s && t) ≡ true → (t ≡ true → (j : ℕ) → j < n → f j ≡ true) → i < suc n → ((eqb i n ≡ true) × (i ≡ n)) ⊎ ((eqb i n ≡ false) × (i ≡ n → ⊥)) → f i ≡ true
-below_by f n i s t q e r h (inl z) = let w : s ≡ true = grind arith in rw z.1 (q ∙ w)
-below_by f n i s t q e r h (inr z) = let w : t ≡ true = grind arith in r w i (omega (arith, z.1))
-
-below_at : (f : ℕ → Bool) (n : ℕ) → below f n ≡ true → (i : ℕ) → i < n → f i ≡ true
-below_at f zero t i h = absurd (not-suc-le-zero h)
-below_at f (suc n) t i h = below_by f n i (f n) (below f n) refl t (below_at f n) h (eqb_tells i n)
-
 abbrev coded : ℕ → Bool
 coded c = eqb (letter_number c) 0 || eqb (letter_code (letter_number c)) c
 
-coded_at : (n k c : ℕ) → (eqb n 0 || eqb k c) ≡ true → 0 < n → k ≡ c
-coded_at n k c e h = grind (arith, nat_tests)
-
-code_cases : (c : ℕ) → ((leb c 383 ≡ true) × (c ≤ 383)) ⊎ ((leb c 383 ≡ false) × (383 < c)) → 0 < letter_number c → letter_code (letter_number c) ≡ c
-code_cases c (inl z) h = coded_at (letter_number c) (letter_code (letter_number c)) c (below_at coded 384 refl c (omega (arith, z.1))) h
-code_cases c (inr z) h =
-    let o : inside 192 383 c ≡ false = grind (arith, nat_tests, z.1) in
-    absurd (omega (arith, number_outside c (omega (arith, z.1)) o))
+below_each : Decides (below coded 384) ((c : ℕ) → c < 384 → coded c ≡ true)
+below_each = Decides-below_and coded (λ c. coded c ≡ true) (below coded) (λ c. (λ t. t, λ t. t)) refl (λ n. refl) 384
 
 letter_code_lem : (c : ℕ) → 0 < letter_number c → letter_code (letter_number c) ≡ c
-letter_code_lem c h = code_cases c (leb_tells c 383) h
+letter_code_lem c h = let k : c ≤ 383 = grind (arith, nat_tests) in grind (arith, nat_tests, below_each.0 refl c (omega arith))
 
 -- each step spells out what the decomposition has
-abbrev letter_in : Letter → Option Letter → Letter
-letter_in d None = d
-letter_in d (Some x) = x
-
-alone_by : (t : Bool) (n : ℕ) (x : Letter) → t ≡ eqb n 0 → cond t None (Some record { number = n; mark = 0 }) ≡ Some x → (0 < n) × (x ≡ record { number = n; mark = 0 })
-alone_by true n x q e = let z : ◌≡◌ {A = ℕ} 0 1 = cc in absurd (omega arith)
-alone_by false n x q e = (grind (arith, nat_tests), sym (ap (letter_in x) e))
+alone : (n : ℕ) (x : Letter) → letter_by None n ≡ Some x → (0 < n) × (x ≡ record { number = n; mark = 0 })
+alone n x e = (grind (arith, nat_tests), grind (arith, nat_tests))
 
 spell_alone : (c : ℕ) (ds : List ℕ) (x : Letter) → canonical c ≡ None → letter_of c ≡ Some x → spell x ds ≡ c ∷ ds
 unfolding spell letter_of
 spell_alone c ds x e q =
-    let w = alone_by (eqb (letter_number c) 0) (letter_number c) x refl (sym (ap (λ (o : Option (ℕ × ℕ)). letter_by o (letter_number c)) e) ∙ q) in
+    let w = alone (letter_number c) x (sym (ap (λ (o : Option (ℕ × ℕ)). letter_by o (letter_number c)) e) ∙ q) in
     ap (λ (v : Letter). spell v ds) w.1 ∙ ap (λ n. n ∷ ds) (letter_code_lem c w.0)
 
 spell_composed : (c b m : ℕ) (ds : List ℕ) → canonical c ≡ Some (b, m) → spell record { number = plain_number b; mark = mark_number m } ds ≡ b ∷ m ∷ ds
 unfolding spell
 spell_composed c b m ds e =
     let f = table_facts c b m e in
-    let k : letter_code (plain_number b) ≡ b = ap letter_code (sym f.plain) ∙ letter_code_lem b (omega (arith, f.least)) in
-    let n : eqb (mark_number m) 0 ≡ false = nonzero (mark_number m) f.mark in
-    let v : get_or marks (mark_number m - 1) 0 ≡ m = mark_code m f.mark in
-    rw (n, v, k) refl
+    grind (arith, nat_tests, f.plain, f.mark, f.least, letter_code_lem b (omega (arith, f.least)), mark_code m f.mark)
 
 spell_letter : (o : Option (ℕ × ℕ)) (c : ℕ) (ds : List ℕ) (x : Letter) → canonical c ≡ o → letter_of c ≡ Some x → spell x ds ≡ decomposed_to o c ds
 unfolding letter_of
 spell_letter None c ds x e q = spell_alone c ds x e q
 spell_letter (Some v) c ds x e q =
-    let l : x ≡ record { number = plain_number v.0; mark = mark_number v.1 } = sym (ap (letter_in x) (sym (ap (λ (o : Option (ℕ × ℕ)). letter_by o (letter_number c)) e) ∙ q)) in
+    let l : x ≡ record { number = plain_number v.0; mark = mark_number v.1 } = cc (sym (ap (λ (o : Option (ℕ × ℕ)). letter_by o (letter_number c)) e) ∙ q) in
     ap (λ (w : Letter). spell w ds) l ∙ spell_composed c v.0 v.1 ds e
 
 spell_mark : (x : Letter) (c : ℕ) (ds : List ℕ) → bare x ≡ true → 0 < mark_number c → spell record { number = x.number; mark = mark_number c } ds ≡ spell x (c ∷ ds)
 unfolding spell
-spell_mark x c ds b h =
-    let n : eqb (mark_number c) 0 ≡ false = nonzero (mark_number c) h in
-    let z : eqb x.mark 0 ≡ true = and_right (inside 5 56 x.number) (eqb x.mark 0) b in
-    let v : get_or marks (mark_number c - 1) 0 ≡ c = mark_code c h in
-    rw (n, z, v) refl
+spell_mark x c ds b h = grind (arith, nat_tests, mark_code c h)
 
 -- letters with numbers and marks in range
 abbrev pub Fine : List Letter → Type 0
@@ -254,10 +176,7 @@ record Stepping (xs ys : List Letter) (c : ℕ) : Type 0 where
   spells : (ds : List ℕ) → spelled_back ys ds ≡ spelled_back xs (decomposed_to (canonical c) c ds)
 
 mark_outside : (c : ℕ) → 0 < mark_number c → canonical c ≡ None
-mark_outside c h =
-    let l : 768 ≤ c = mark_least c h in
-    let o : inside 192 383 c ≡ false = grind (arith, nat_tests) in
-    canonical_outside c o
+mark_outside c h = canonical_outside c (grind (arith, nat_tests, mark_least c h))
 
 remarked : (x : Letter) (xs : List Letter) (c : ℕ) → bare x ≡ true → 0 < mark_number c → Stepping (x ∷ xs) (record { number = x.number; mark = mark_number c } ∷ xs) c
 remarked x xs c b h = record {
@@ -266,18 +185,22 @@ remarked x xs c b h = record {
   spells = λ ds. ap (spelled_back xs) (spell_mark x c ds b h ∙ ap (λ (o : Option (ℕ × ℕ)). spell x (decomposed_to o c ds)) (sym (mark_outside c h)));
 }
 
-marked_by : (t : Bool) (x : Letter) (xs ys : List Letter) (c p : ℕ) → bare x ≡ t → 0 < mark_number c → cond t (Ok (record { number = x.number; mark = mark_number c } ∷ xs)) (Err (fault LooseMark p)) ≡ Ok ys → Stepping (x ∷ xs) ys c
-marked_by true x xs ys c p b h e = subst (λ (zs : List Letter). Stepping (x ∷ xs) zs c) (ap (list_in []) e) (remarked x xs c b h)
-marked_by false x xs ys c p b h e = absurd (no_err (fault LooseMark p) ys e)
+marks_last : (x : Letter) (xs ys : List Letter) (m p : ℕ) → marked (x ∷ xs) m p ≡ Ok ys → (bare x ≡ true) × (record { number = x.number; mark = m } ∷ xs ≡ ys)
+marks_last x xs ys m p e = (grind (arith, nat_tests), grind (arith, nat_tests))
 
 step_mark : (xs ys : List Letter) (c p : ℕ) → 0 < mark_number c → marked xs (mark_number c) p ≡ Ok ys → Stepping xs ys c
-step_mark [] ys c p h e = absurd (no_err (fault LooseMark p) ys e)
-step_mark (x ∷ xs) ys c p h e = marked_by (bare x) x xs ys c p refl h e
+step_mark [] ys c p h e = cc
+step_mark (x ∷ xs) ys c p h e =
+    let w = marks_last x xs ys (mark_number c) p e in
+    subst (λ (zs : List Letter). Stepping (x ∷ xs) zs c) w.1 (remarked x xs c w.0 h)
+
+room : (xs ys : List Letter) (x : Letter) (p : ℕ) → lettered xs (Some x) p ≡ Ok ys → (length xs < 24) × (ys ≡ x ∷ xs)
+room xs ys x p e = (grind (arith, nat_tests), grind (arith, nat_tests))
 
 step_letter : (o : Option Letter) (xs ys : List Letter) (c p : ℕ) → letter_of c ≡ o → lettered xs o p ≡ Ok ys → Stepping xs ys c
-step_letter None xs ys c p q e = absurd (no_err (fault NotListed p) ys e)
+step_letter None xs ys c p q e = cc
 step_letter (Some x) xs ys c p q e =
-    let w = room_by (ltb (length xs) 24) xs ys (x ∷ xs) p refl e in
+    let w = room xs ys x p e in
     let s : Stepping xs (x ∷ xs) c = record {
       fine = λ f. (letter_good c x q, f);
       short = λ l. w.0;
@@ -304,7 +227,7 @@ running Done xs ls e =
       short = λ h. simp length-reverse h;
       spells = spelled_reverse xs [];
     }
-running (Broken p) xs ls e = absurd (no_err (fault IllFormed p) ls e)
+running (Broken p) xs ls e = cc
 running (Point c p t) xs ls e =
     let w = went xs c p t ls e in
     let s = step_cases xs w.ys c p (eqb_tells (mark_number c) 0) w.is in

@@ -1,5 +1,5 @@
 -- Names as keys: comparing digits from the first is comparing the three words, and the laws follow.
-use Rattle.std.specs.Prelude.{◌≡◌, ℕ, zero, suc, ◌+◌, ◌*◌, ◌/◌, ◌%◌, ◌≤◌, Bool, true, List, [], ◌∷◌, Decides, slice_index, refl}
+use Rattle.std.specs.Prelude.{◌≡◌, ℕ, zero, suc, ◌+◌, ◌*◌, ◌/◌, ◌%◌, ◌≤◌, min, Bool, true, List, [], ◌∷◌, Decides, slice_index, refl}
 use Rattle.std.specs.declared.cmp.Ordering.TheVariants.{Less, Equal, Greater}
 use Rattle.std.specs.declared.cmp.Ordering.{Ordering}
 use Rattle.std.proofs.Common.{sym, ◌∙◌, ap, arith}
@@ -12,7 +12,7 @@ use Rattle.keys.specs.Sizes.{size_itself, size_equal, share_below, share_rises}
 use Rattle.names.specs.declared.Name.{Name}
 use Rattle.names.specs.Digits.{digits_of_word, digits_of, by_digits, name_order, name_home, by_words, first_two}
 
-then_then : (a b c : Ordering) → ordering_then (ordering_then a b) c ≡ ordering_then a (ordering_then b c)
+pub then_then : (a b c : Ordering) → ordering_then (ordering_then a b) c ≡ ordering_then a (ordering_then b c)
 then_then Less b c = refl
 then_then Equal b c = refl
 then_then Greater b c = refl
@@ -52,8 +52,10 @@ home_by_word : (x : Name) (n : ℕ) → name_home x n ≡ share 1048576 (x.high 
 unfolding name_home
 home_by_word x n = ap (λ k. share 1048576 k n) (first_two_lem x)
 
-pub home_by_two : (x : Name) (n : ℕ) → first_two x * n / 1048576 ≡ name_home x n
-home_by_two x n = sym (home_by_word x n)
+pub home_by_two : (x : Name) (n : ℕ) → share 1048576 (first_two x) n ≡ name_home x n
+home_by_two x n =
+    let m : min (first_two x) 1048575 ≡ first_two x = omega arith in
+    ap (λ k. k * n / 1048576) m ∙ sym (home_by_word x n)
 
 -- the laws, of the words
 words_itself : (x : Name) → by_words x x ≡ Equal

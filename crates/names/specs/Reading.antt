@@ -1,5 +1,5 @@
 -- What a text is read as: a name's key, or the refusal of its first faulty code point.
-use Rattle.std.specs.Prelude.{ℕ, zero, suc, ◌+◌, ◌-◌, ◌*◌, cond, List, [], ◌∷◌, map, reverse, length, Some, None, Ok, Err, Option, Result, nat_lt, slice_index}
+use Rattle.std.specs.Prelude.{ℕ, zero, suc, ◌+◌, ◌-◌, ◌*◌, cond, List, [], ◌∷◌, ◌++◌, codes, decimal, map, reverse, length, Some, None, Ok, Err, Option, Result, nat_lt, slice_index}
 use Rattle.names.specs.declared.Reason.{Reason}
 use Rattle.names.specs.declared.Reason.TheVariants.{IllFormed, NotListed, LooseMark, Length}
 use Rattle.names.specs.declared.Fault.{Fault}
@@ -13,6 +13,10 @@ refusal_number IllFormed = 9
 refusal_number NotListed = 10
 refusal_number LooseMark = 11
 refusal_number Length = 12
+
+-- how a refusal is printed: its number and its place
+abbrev pub fault_text : Fault → List ℕ
+fault_text e = codes "REFUSED " ++ (decimal (refusal_number e.reason) ++ (codes " " ++ decimal e.place))
 
 -- a refusal carries its place: the number, from 0, of the first byte of the faulty code point
 abbrev pub fault : Reason → ℕ → Fault

@@ -1,9 +1,10 @@
 //! The letters of names and their digits: number times 14, plus mark.
-ghost use Rattle.std.specs.Prelude.{◌≡◌, ◌+◌, ◌*◌, ◌<◌, slice_index};
-ghost use Rattle.names.specs.Letters.{letter_of, letter_number, place_in, marks, digit_by, TableRule};
-ghost use Rattle.names.specs.Progress.{bare_digit};
+ghost use Rattle.std.specs.Prelude.{◌≡◌, ◌<◌, None, slice_index};
+ghost use Rattle.std.specs.Option.{option_map};
+ghost use Rattle.names.specs.Letters.{digit, letter_of, letter_by, letter_number, mark_number, TableRule};
+ghost use Rattle.names.specs.Progress.{bare_digit, unless_zero};
 
-// The digits of the code points from 00C0 to 017F, 0 for one that is not listed.
+// The digits of the code points from 00C0 to 017F, 0 for one that is not listed: the numbers that `TableRule` speaks of.
 const DIGITS: [u16; 192] = [
     71, 72, 73, 74, 78, 79, 798, 110, 127, 128, 129, 134, 183, 184, 185, 190, // 00C0
     812, 256, 267, 268, 269, 270, 274, 0, 826, 351, 352, 353, 358, 408, 840, 854, // 00D0
@@ -19,39 +20,42 @@ const DIGITS: [u16; 192] = [
     360, 724, 363, 727, 381, 745, 409, 773, 414, 422, 786, 427, 791, 431, 795, 0, // 0170
 ];
 
-// The digit of the i-th code point from 00C0 on.
-fn table_digit(i: usize) -> u16
+// The digit of the i-th code point from 00C0 on, none for one that is not listed.
+fn table_digit(i: usize) -> Option<u16>
     requires { i < 192 }
-    ensures value { result ≡ slice_index DIGITS i }
+    ensures value { result ≡ unless_zero (slice_index DIGITS i) }
     ensures rule { TableRule DIGITS }
 {
-    DIGITS[i]
-}
-
-// The digit of a letter of ASCII, 0 for a code point that is not listed.
-fn ascii_digit(c: u32) -> u16
-    requires { c < 128 }
-    ensures { result ≡ letter_number c * 14 }
-{
-    match c {
-        0x20 => 14,
-        0x27 => 28,
-        0x2d => 42,
-        0x2e => 56,
-        0x41..=0x5a => (c - 0x41 + 5) as u16 * 14,
-        0x61..=0x7a => (c - 0x61 + 31) as u16 * 14,
-        _ => 0,
+    match DIGITS[i] {
+        0 => None,
+        digit => Some(digit),
     }
 }
 
-// The digit of the letter that a code point is by itself, 0 for one that is not listed.
-pub(crate) fn digit_of(c: u32) -> u16
-    ensures { result ≡ digit_by (letter_of c) }
+// The digit of a letter of ASCII, none for a code point that is not listed.
+fn ascii_digit(c: u32) -> Option<u16>
+    requires { c < 128 }
+    ensures { result ≡ option_map digit (letter_by None (letter_number c)) }
+{
+    match c {
+        0x20 => Some(14),
+        0x27 => Some(28),
+        0x2d => Some(42),
+        0x2e => Some(56),
+        0x41..=0x5a => Some((c - 0x41 + 5) as u16 * 14),
+        0x61..=0x7a => Some((c - 0x61 + 31) as u16 * 14),
+        _ => None,
+    }
+}
+
+// The digit of the letter that a code point is by itself, none for one that is not listed.
+pub(crate) fn digit_of(c: u32) -> Option<u16>
+    ensures { result ≡ option_map digit (letter_of c) }
 {
     match c {
         0..=0x7f => ascii_digit(c),
         0xc0..=0x17f => table_digit((c - 0xc0) as usize),
-        _ => 0,
+        _ => None,
     }
 }
 
@@ -59,19 +63,20 @@ pub(crate) fn digit_of(c: u32) -> u16
 pub(crate) fn takes_mark(digit: u16) -> bool
     ensures { result ≡ bare_digit digit }
 {
-    digit % 14 == 0 && 70 <= digit && digit <= 784
+    digit % 14 == 0 && (70..=784).contains(&digit)
 }
 
-// The number of a combining mark, 0 for any other code point.
-pub(crate) fn mark_of(c: u32) -> u16
-    ensures { result ≡ place_in 1 marks c }
+// The number of a combining mark, none for any other code point.
+#[tactic(auto, unfolding(crate::specs::Letters::mark_number))]
+pub(crate) fn mark_of(c: u32) -> Option<u16>
+    ensures { result ≡ unless_zero (mark_number c) }
 {
     match c {
-        0x300..=0x304 => (c - 0x300 + 1) as u16,
-        0x306..=0x308 => (c - 0x306 + 6) as u16,
-        0x30a..=0x30c => (c - 0x30a + 9) as u16,
-        0x327 => 12,
-        0x328 => 13,
-        _ => 0,
+        0x300..=0x304 => Some((c - 0x300 + 1) as u16),
+        0x306..=0x308 => Some((c - 0x306 + 6) as u16),
+        0x30a..=0x30c => Some((c - 0x30a + 9) as u16),
+        0x327 => Some(12),
+        0x328 => Some(13),
+        _ => None,
     }
 }

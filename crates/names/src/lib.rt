@@ -1,18 +1,20 @@
 //! Mint names: read from UTF-8, kept as a key of 24 digits, compared from the first digit.
 #![tactic(auto)]
 
-ghost use Rattle.std.specs.Prelude.{◌≡◌, ◌+◌, ◌≤◌, List, Some, slice_index, refl};
+ghost use Rattle.std.specs.Prelude.{◌≡◌, ℕ, ◌≤◌, [], length, ◌==◌, Some, slice_index, refl};
 ghost use Rattle.std.specs.Ordering.{is_eq};
-ghost use Rattle.names.specs.Letters.{Letter};
-ghost use Rattle.names.specs.Reading.{refusal_number, stepped, word_at, packed, reading};
-ghost use Rattle.names.specs.Digits.{name_order, name_home, by_words, first_two};
+ghost use Rattle.names.specs.Reading.{refusal_number, fault_text, stepped, marked, lettered, word_at, packed, reading};
+ghost use Rattle.names.specs.Digits.{name_order, name_home, first_two};
 ghost use Rattle.names.specs.Law.{NameLaw};
-ghost use Rattle.names.specs.Progress.{Holds, Ready, Follows, refused_by};
+ghost use Rattle.names.specs.Progress.{letter_at, letters_in, went};
 ghost use Rattle.names.specs.KeyLaws.{name_laws, name_total, name_equivalence};
 ghost use Rattle.std.specs.Cmp.{partial_equiv_from_equiv, po};
 
 use keys::Key;
 use std::cmp::Ordering;
+use std::error::Error;
+use std::fmt;
+use std::marker::Model;
 
 mod letters;
 mod utf8;
@@ -21,13 +23,13 @@ mod utf8;
 #[derive(Clone, Copy, PartialEq, Eq, Debug)]
 pub enum Reason {
     /// Ill-formed UTF-8.
-    IllFormed,
+    IllFormed = 9,
     /// A code point that is no letter of names and no mark.
-    NotListed,
+    NotListed = 10,
     /// A mark that does not directly follow a plain letter without a mark.
-    LooseMark,
+    LooseMark = 11,
     /// No letter at all, or a 25th.
-    Length,
+    Length = 12,
 }
 
 /// The refusal of a name: why, and the number, from 0, of the byte where the first faulty code point begins.
@@ -42,14 +44,19 @@ impl Fault {
     pub const fn number(self) -> u8
         ensures { result ≡ refusal_number self.reason }
     {
-        match self.reason {
-            Reason::IllFormed => 9,
-            Reason::NotListed => 10,
-            Reason::LooseMark => 11,
-            Reason::Length => 12,
-        }
+        self.reason as u8
     }
 }
+
+impl fmt::Display for Fault {
+    ghost output = { λ e. Some (fault_text e) };
+
+    fn fmt<W: fmt::Write>(&self, f: &mut fmt::Formatter<W>) -> fmt::Result {
+        write!(f, "REFUSED {} {}", self.number(), self.place)
+    }
+}
+
+impl Error for Fault {}
 
 /// The key of a mint name: 24 digits in base 1,024, one for each letter with its mark, unused ones last and 0.
 ///
@@ -62,22 +69,11 @@ pub struct Name {
 }
 
 impl Name {
-    // Digits from the first, eight at a time.
-    fn by_words(self, other: Name) -> Ordering
-        ensures { result ≡ by_words self other }
-    {
-        let rest = self
-            .middle
-            .cmp(&other.middle)
-            .then(self.low.cmp(&other.low));
-        self.high.cmp(&other.high).then(rest)
-    }
-
     // The first two digits as one number: the highest twenty of eighty bits.
-    fn first_two(self) -> u128
+    fn first_two(self) -> u64
         ensures { result ≡ first_two self }
     {
-        (self.high >> 60).min(1_048_575)
+        (self.high >> 60).min(1_048_575) as u64
     }
 }
 
@@ -89,14 +85,16 @@ impl Key for Name {
     ghost lawful = { name_laws };
 
     fn compare(self, other: Name) -> Ordering {
-        self.by_words(other)
+        let words = (self.high, self.middle, self.low);
+        words.cmp(&(other.high, other.middle, other.low))
     }
 
     fn home(self, n: usize) -> usize {
-        (self.first_two() * n as u128 / 1_048_576) as usize
+        keys::share::<1_048_576>(self.first_two(), n)
     }
 }
 
+// By hand: these impls state the order of the 24 digits, where a derive would state one of the private words.
 impl PartialEq for Name {
     ghost eq = { λ x y. is_eq (name_order x y) };
 
@@ -135,85 +133,107 @@ impl Ord for Name {
     }
 }
 
-/// The letters that were read so far: their digits, how many there are, and whether the last one may take a mark.
-#[derive(Clone, Copy)]
+/// The digits of the letters that were read so far, 24 at most: seen as their list.
+///
+/// They stand in an array, since a name is read without allocating.
+#[derive(Drop)]
 struct Row {
     digits: [u16; 24],
     count: usize,
-    plain: bool,
+}
+
+impl Model for Row {
+    ghost use Rattle.std.specs.Prelude.{ℕ, ◌≤◌, List, take};
+
+    ghost Value = { List ℕ };
+
+    ghost view = { λ r. take r.count r.digits };
+
+    ghost invariant = { λ r. r.count ≤ 24 };
 }
 
 impl Row {
-    // Why a code point with this mark, or else with this digit, may not follow.
-    fn refusal(self, mark: u16, digit: u16) -> Option<Reason>
-        ensures { result ≡ refused_by self.plain self.count mark digit }
+    fn new() -> Row
+        ensures { result ≡ [] }
     {
-        if mark > 0 {
-            return if self.plain {
-                None
-            } else {
-                Some(Reason::LooseMark)
-            };
+        Row {
+            digits: [0; 24],
+            count: 0,
         }
-        if digit == 0 {
-            return Some(Reason::NotListed);
-        }
-        if self.count >= 24 {
-            return Some(Reason::Length);
-        }
-        None
+    }
+
+    fn is_empty(&self) -> bool
+        ensures { result ≡ (length self.now == 0) }
+    {
+        self.count == 0
+    }
+
+    // The k-th digit, 0 where there is none.
+    fn digit(&self, k: usize) -> u16
+        ensures { result ≡ slice_index self.now k }
+    {
+        if k < self.count { self.digits[k] } else { 0 }
     }
 
     // One more code point: a mark on the last letter, or a letter.
-    fn push(self, c: u32, place: usize) -> Result<Row, Fault>
-        requires { Ready self }
-        ensures { (xs : List Letter) → Holds xs self → Follows (stepped xs c place) result }
+    fn push(&mut self, c: u32) -> Result<(), Reason>
+        ensures { (place : ℕ) → stepped (letters_in self.old) c place ≡ went self.new place result }
     {
-        let Row {
-            mut digits,
-            count,
-            plain: _,
-        } = self;
-        let mark = letters::mark_of(c);
-        let digit = letters::digit_of(c);
-        if let Some(reason) = self.refusal(mark, digit) {
-            return Err(Fault { reason, place });
+        match (letters::mark_of(c), letters::digit_of(c)) {
+            (Some(mark), _) => self.push_mark(mark),
+            (None, Some(digit)) => self.push_letter(digit),
+            (None, None) => Err(Reason::NotListed),
         }
-        if mark > 0 {
-            digits[count - 1] += mark;
-            return Ok(Row {
-                digits,
-                count,
-                plain: false,
-            });
-        }
-        digits[count] = digit;
-        Ok(Row {
-            digits,
-            count: count + 1,
-            plain: letters::takes_mark(digit),
-        })
     }
-}
 
-// Eight digits from the i-th on, as one word.
-fn word(digits: [u16; 24], i: usize) -> u128
-    requires { i + 8 ≤ 24 }
-    ensures { result ≡ word_at (λ k. slice_index digits k) i }
-{
-    let a = (digits[i] as u128 * 1024 + digits[i + 1] as u128) * 1024 + digits[i + 2] as u128;
-    let b = (a * 1024 + digits[i + 3] as u128) * 1024 + digits[i + 4] as u128;
-    let c = (b * 1024 + digits[i + 5] as u128) * 1024 + digits[i + 6] as u128;
-    c * 1024 + digits[i + 7] as u128
-}
+    // A mark on the last letter.
+    fn push_mark(&mut self, mark: u16) -> Result<(), Reason>
+        requires { mark ≤ 13 }
+        ensures { (place : ℕ) → marked (letters_in self.old) mark place ≡ went self.new place result }
+    {
+        let Some(last) = self.count.checked_sub(1) else {
+            return Err(Reason::LooseMark);
+        };
+        if !letters::takes_mark(self.digits[last]) {
+            return Err(Reason::LooseMark);
+        }
+        self.digits[last] += mark;
+        Ok(())
+    }
 
-fn pack(digits: [u16; 24]) -> Name
-    ensures { result ≡ packed (λ k. slice_index digits k) }
-{
-    Name {
-        high: word(digits, 0),
-        middle: word(digits, 8),
-        low: word(digits, 16),
+    // A letter, of which there may be 24.
+    fn push_letter(&mut self, digit: u16) -> Result<(), Reason>
+        ensures { (place : ℕ) → lettered (letters_in self.old) (Some (letter_at digit)) place ≡ went self.new place result }
+    {
+        if self.count >= 24 {
+            return Err(Reason::Length);
+        }
+        self.digits[self.count] = digit;
+        self.count += 1;
+        Ok(())
+    }
+
+    // Eight digits from the i-th on, as one word; an unused digit is 0.
+    fn word(&self, i: usize) -> u128
+        requires { i ≤ 16 }
+        ensures { result ≡ word_at (λ k. slice_index self.now k) i }
+    {
+        let mut word = 0;
+        for k in i..i + 8 {
+            word = word * 1024 + u128::from(self.digit(k));
+        }
+        word
+    }
+
+    // The key of a name with these digits.
+    fn key(&self) -> Name
+        ensures { result ≡ packed (λ k. slice_index self.now k) }
+    {
+        Name {
+            high: self.word(0),
+            middle: self.word(8),
+            low: self.word(16),
+        }
     }
 }
 
@@ -221,27 +241,28 @@ fn pack(digits: [u16; 24]) -> Name
 ///
 /// Of two texts that are both read, the keys are equal exactly when their canonical decompositions agree: an accent may
 /// come composed with its letter or as a mark after it.
+#[tactic(auto, using(crate::proofs::Laws::name_law))]
 pub fn read(bytes: &[u8]) -> Result<Name, Fault>
     ensures value { result ≡ reading bytes.now }
     ensures law { NameLaw }
 {
-    let mut row = Row {
-        digits: [0; 24],
-        count: 0,
-        plain: false,
-    };
+    let mut row = Row::new();
     let mut rest = bytes;
-    while rest.len() > 0 {
+    // No iterator of code points: it would carry the place beside the bytes and have to stop after a refusal, as `?` does here.
+    while !rest.is_empty() {
         let place = bytes.len() - rest.len();
-        let (c, tail) = utf8::point(rest, place)?;
-        row = row.push(c, place)?;
+        let (c, tail) = utf8::first(rest).ok_or(Fault {
+            reason: Reason::IllFormed,
+            place,
+        })?;
+        row.push(c).map_err(|reason| Fault { reason, place })?;
         rest = tail;
     }
-    if row.count == 0 {
+    if row.is_empty() {
         return Err(Fault {
             reason: Reason::Length,
             place: 0,
         });
     }
-    Ok(pack(row.digits))
+    Ok(row.key())
 }

@@ -1,111 +1,48 @@
 //! UTF-8 taken apart: the first code point of some bytes, and the bytes that follow it.
-ghost use Rattle.std.specs.Prelude.{◌≡◌, ◌<◌, ◌≤◌, Some, None, MatchResult};
-ghost use Rattle.names.specs.Utf8.{first, two, three, four, fits3, fits4};
-ghost use Rattle.names.specs.Reading.{fault};
+ghost use Rattle.std.specs.Prelude.{◌≡◌, ◌-◌, ◌||◌, cond, Some, None, MatchOption};
+ghost use Rattle.names.specs.Utf8.{first, continues, fits3, fits4};
 
-use crate::{Fault, Reason};
-
-// Where the bytes are ill-formed at their start, the refusal has the given place.
-pub(crate) fn point(bytes: &[u8], place: usize) -> Result<(u32, &[u8]), Fault>
-    ensures { MatchResult result (λ p. first bytes.now ≡ Some (p.0, p.1.now)) (λ e. (first bytes.now ≡ None) × (e ≡ fault Reason.IllFormed place)) }
+// The first code point of some bytes and the bytes that follow it, none where they are ill-formed at their start.
+pub(crate) fn first(bytes: &[u8]) -> Option<(u32, &[u8])>
+    ensures { MatchOption result (first bytes.now ≡ None) (λ p. first bytes.now ≡ Some (p.0, p.1.now)) }
 {
-    match bytes {
-        [b @ 0..=0x7f, rest @ ..] => Ok((*b as u32, rest)),
-        [b @ 0xc2..=0xdf, rest @ ..] => two_bytes(*b, rest, place),
-        [b @ 0xe0..=0xef, rest @ ..] => three_bytes(*b, rest, place),
-        [b @ 0xf0..=0xf4, rest @ ..] => four_bytes(*b, rest, place),
-        _ => Err(Fault {
-            reason: Reason::IllFormed,
-            place,
-        }),
-    }
-}
-
-// The code point of two bytes, after the first.
-fn two_bytes(b0: u8, bytes: &[u8], place: usize) -> Result<(u32, &[u8]), Fault>
-    requires { (194 ≤ b0) × (b0 < 224) }
-    ensures { MatchResult result (λ p. two b0 bytes.now ≡ Some (p.0, p.1.now)) (λ e. (two b0 bytes.now ≡ None) × (e ≡ fault Reason.IllFormed place)) }
-{
-    match bytes {
-        [b1 @ 0x80..=0xbf, rest @ ..] => Ok(((b0 as u32 - 0xc0) * 64 + (*b1 as u32 - 0x80), rest)),
-        _ => Err(Fault {
-            reason: Reason::IllFormed,
-            place,
-        }),
-    }
-}
-
-// Whether the first two bytes of three fit each other: no overlong form, no surrogate.
-fn fit_three(b0: u8, b1: u8) -> bool
-    ensures { result ≡ fits3 b0 b1 }
-{
-    match (b0, b1) {
-        (0xe0, 0xa0..=0xbf) => true,
-        (0xed, 0x80..=0x9f) => true,
-        (0xe1..=0xec | 0xee..=0xef, 0x80..=0xbf) => true,
-        _ => false,
-    }
-}
-
-fn three_bytes(b0: u8, bytes: &[u8], place: usize) -> Result<(u32, &[u8]), Fault>
-    requires { (224 ≤ b0) × (b0 < 240) }
-    ensures { MatchResult result (λ p. three b0 bytes.now ≡ Some (p.0, p.1.now)) (λ e. (three b0 bytes.now ≡ None) × (e ≡ fault Reason.IllFormed place)) }
-{
-    match bytes {
-        [b1 @ 0x80..=0xbf, b2 @ 0x80..=0xbf, rest @ ..] => {
-            if fit_three(b0, *b1) {
-                let high = (b0 as u32 - 0xe0) * 4096;
-                Ok((high + (*b1 as u32 - 0x80) * 64 + (*b2 as u32 - 0x80), rest))
-            } else {
-                Err(Fault {
-                    reason: Reason::IllFormed,
-                    place,
-                })
-            }
+    let (b0, rest) = bytes.split_first()?;
+    match (*b0, rest) {
+        (0..=0x7f, _) => Some((u32::from(*b0), rest)),
+        (0xc2..=0xdf, [b1, rest @ ..]) => Some((u32::from(*b0 - 0xc0) * 64 + low(*b1)?, rest)),
+        (0xe0..=0xef, [b1, b2, rest @ ..]) if fits(*b0, *b1) => {
+            let high = u32::from(*b0 - 0xe0) * 64 + low(*b1)?;
+            Some((high * 64 + low(*b2)?, rest))
         }
-        _ => Err(Fault {
-            reason: Reason::IllFormed,
-            place,
-        }),
-    }
-}
-
-// Whether the first two bytes of four fit each other: no overlong form, nothing above 10FFFF.
-fn fit_four(b0: u8, b1: u8) -> bool
-    ensures { result ≡ fits4 b0 b1 }
-{
-    match (b0, b1) {
-        (0xf0, 0x90..=0xbf) => true,
-        (0xf4, 0x80..=0x8f) => true,
-        (0xf1..=0xf3, 0x80..=0xbf) => true,
-        _ => false,
-    }
-}
-
-fn four_bytes(b0: u8, bytes: &[u8], place: usize) -> Result<(u32, &[u8]), Fault>
-    requires { (240 ≤ b0) × (b0 < 245) }
-    ensures { MatchResult result (λ p. four b0 bytes.now ≡ Some (p.0, p.1.now)) (λ e. (four b0 bytes.now ≡ None) × (e ≡ fault Reason.IllFormed place)) }
-{
-    match bytes {
-        [
-            b1 @ 0x80..=0xbf,
-            b2 @ 0x80..=0xbf,
-            b3 @ 0x80..=0xbf,
-            rest @ ..,
-        ] => {
-            if fit_four(b0, *b1) {
-                let high = (b0 as u32 - 0xf0) * 262144 + (*b1 as u32 - 0x80) * 4096;
-                Ok((high + (*b2 as u32 - 0x80) * 64 + (*b3 as u32 - 0x80), rest))
-            } else {
-                Err(Fault {
-                    reason: Reason::IllFormed,
-                    place,
-                })
-            }
+        (0xf0..=0xf4, [b1, b2, b3, rest @ ..]) if fits(*b0, *b1) => {
+            let high = u32::from(*b0 - 0xf0) * 64 + low(*b1)?;
+            Some(((high * 64 + low(*b2)?) * 64 + low(*b3)?, rest))
         }
-        _ => Err(Fault {
-            reason: Reason::IllFormed,
-            place,
-        }),
+        _ => None,
     }
+}
+
+// The low six bits of a byte 10xxxxxx, none of any other byte.
+fn low(b: u8) -> Option<u32>
+    ensures { result ≡ cond (continues b) (Some (b - 128)) None }
+{
+    match b {
+        0x80..=0xbf => Some(u32::from(b - 0x80)),
+        _ => None,
+    }
+}
+
+// Whether the first two bytes of three or four fit each other: no overlong form, no surrogate, nothing above 10FFFF.
+fn fits(b0: u8, b1: u8) -> bool
+    ensures { result ≡ (fits3 b0 b1 || fits4 b0 b1) }
+{
+    matches!(
+        (b0, b1),
+        (0xe0, 0xa0..=0xbf)
+            | (0xed, 0x80..=0x9f)
+            | (0xe1..=0xec | 0xee..=0xef, 0x80..=0xbf)
+            | (0xf0, 0x90..=0xbf)
+            | (0xf4, 0x80..=0x8f)
+            | (0xf1..=0xf3, 0x80..=0xbf)
+    )
 }

@@ -1,7 +1,7 @@
 use Rattle.std.proofs.Common.{◌≡◌, false, sym, ◌∙◌, arith}
 use Rattle.std.proofs.lemmas.Bool.Decides.{nat_tests}
 use Rattle.names.specs.Utf8.{inside}
-use Rattle.names.proofs.Tables.{digit_outside, digit_none, table_gives}
+use Rattle.names.proofs.Rows.{digit_outside, digit_in_table, digit_none}
 use Rattle.names.proofs.letters.digit_of.Goals as goal
 
 pub returns-in-0-to-127 : goal.returns-in-0-to-127
@@ -11,7 +11,7 @@ returns-in-0-to-127 c =
 
 pub returns-in-192-to-383 : goal.returns-in-192-to-383
 returns-in-192-to-383 c =
-    c.table_digit.ensures.value ∙ table_gives _ c.args.c c.table_digit.ensures.rule (omega arith) (omega arith)
+    c.table_digit.ensures.value ∙ digit_in_table _ c.args.c c.table_digit.ensures.rule (omega arith) (omega arith)
 
 -- the code points between, and those above
 pub returns-in_default : goal.returns-in_default
