@@ -1,5 +1,6 @@
 -- Each call is its checks, from top to bottom, and then what it does with the record.
 use Rattle.std.proofs.Common.{◌≡◌, ℕ, Bool, true, false, cond, not, List, length, set, IsErrAnd, refl, sym, ap, ◌∙◌, arith}
+use Rattle.std.proofs.lemmas.Bool.{both_ways}
 use Rattle.std.proofs.lemmas.Result.{err_from_is_err_and}
 use Rattle.protocol.specs.declared.Cell.{Cell}
 use Rattle.protocol.specs.declared.Station.{Station}
@@ -20,6 +21,11 @@ use Rattle.register.specs.Memory.{world}
 -- the refusal that a `?` hands on
 pub handed_on : {K A : Type 0} (w : World K) (r : Result A Refusal) (e : Refusal) → IsErrAnd r (λ x. x ≡ e) → ◌≡◌ {A = World K × Result A Refusal} (w, r) (w, Err e)
 handed_on w r e h = let p = err_from_is_err_and r h in ap (λ x. (w, x)) (p.1 ∙ ap Err p.2)
+
+-- a check that does not refuse
+pub not_so : (b : Bool) (e : Refusal) → Ok tt ≡ refused_when b e → false ≡ b
+not_so true e h = let z : ◌≡◌ {A = ℕ} 0 1 = cc in absurd (omega arith)
+not_so false e h = refl
 
 module _ {K A : Type 0} (w : World K) where
   -- the refusal of a check, or what follows it
@@ -92,15 +98,15 @@ module _ {K : Type 0} {N : ℕ} (κ : Kind K N) (w : World K) (s : ℕ) (t : Sta
   abbrev made : Out K Progress
   made = stepping_by w s t (decision κ w.cells t.key t.stage)
 
-  turn_is : (b c : Bool) → Ok tt ≡ refused_when b WrongSize
+  turn_is : (b c : Bool) → false ≡ b
       → by_turn (cond b (turned_down w.cells entry_of WrongSize) (cond c (step_made w.cells entry_of (decision κ w.cells t.key t.stage)) (turned_down w.cells entry_of NoCell)))
       ≡ refused_if (not c) NoCell w made
   unfolding refused_if
-  turn_is true c h = let z : ◌≡◌ {A = ℕ} 0 1 = cc in absurd (omega arith)
+  turn_is true c h = absurd (both_ways true (sym h) refl)
   turn_is false true h = refl
   turn_is false false h = refl
 
-  module _ (good : Ok tt ≡ refused_when (bad_size N) WrongSize) where
+  module _ (good : false ≡ bad_size N) where
     pub turned_to : (o : Turned K) → o ≡ turning κ w.cells entry_of → by_turn o ≡ refused_if (not (names_cells N t.stage)) NoCell w made
     turned_to o h = ap by_turn h ∙ turn_is (bad_size N) (names_cells N t.stage) good
 

@@ -6,11 +6,13 @@ ghost use Rattle.protocol.specs.Step.{kind_over};
 ghost use Rattle.protocol.specs.Calls.{beginning, collecting, withdrawing, stepping, whole_entry, question};
 ghost use Rattle.register.specs.Memory.{world, hands_out};
 
-use crate::checks::{answer_at, check_size, is_idle, record_at};
+use crate::checks::{answer_at, check_size, is_gone, is_idle, record_at};
 use crate::slips::Slip;
 use keys::Key;
 use protocol::{Answer, Cell, Departure, Progress, Refusal, Stage, Station};
 use stages::{Entry, held_at, holds_mark, is_busy, progress, settle, stays_withdrawn, wrong_size};
+
+// The number of cells and the register's number stay two parameters beside the records: those are the caller's, lent for the one call.
 
 /// A beginning, of `n` cells.
 pub fn begin<K: Key>(
@@ -47,7 +49,7 @@ pub fn collect<K: Key>(
     ensures { (cs : List (CellOf K)) → (world number cs stations.new, result) ≡ collecting n (world number cs stations.old) slip.now.register slip.now.station }
 {
     check_size(n)?;
-    slip.check(number)?;
+    slip.check_register(number)?;
     let t = record_at(stations, slip.station)?;
     if t.withdrawn {
         return Err(Refusal::NoEntry);
@@ -67,9 +69,9 @@ pub fn withdraw<K: Key>(
     ensures { (cs : List (CellOf K)) → (world number cs stations.new, result) ≡ withdrawing n (world number cs stations.old) slip.now.register slip.now.station }
 {
     check_size(n)?;
-    slip.check(number)?;
+    slip.check_register(number)?;
     let t = record_at(stations, slip.station)?;
-    if is_idle(t.stage) || t.withdrawn {
+    if is_gone(t) {
         return Err(Refusal::NoEntry);
     }
     if holds_mark(n, t.stage) {
@@ -116,9 +118,7 @@ pub fn step<K: Key>(
 pub fn enter<K: Key>(cells: &mut [Cell<K>], key: K) -> Result<Answer, Refusal>
     ensures { (number : ℕ) (ts : List (StationOf K)) → (world number cells.new ts, result) ≡ whole_entry (kind_over K.order K.home (length cells.old)) (world number cells.old ts) key }
 {
-    if wrong_size(cells.len()) {
-        return Err(Refusal::WrongSize);
-    }
+    check_size(cells.len())?;
     let mut fresh = Entry {
         key,
         stage: Stage::Home,

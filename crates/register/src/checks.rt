@@ -1,5 +1,5 @@
 //! The checks of the calls: each is the refusal, or what the call goes on with.
-ghost use Rattle.std.specs.Prelude.{◌≡◌, ◌<◌, length, IfOk};
+ghost use Rattle.std.specs.Prelude.{◌≡◌, ◌<◌, ◌||◌, length, IfOk};
 ghost use Rattle.protocol.specs.declared.Refusal.TheVariants.{WrongSize};
 ghost use Rattle.protocol.specs.Stages.{standing, is_idle};
 ghost use Rattle.protocol.specs.Calls.{bad_size, bad_count};
@@ -43,6 +43,13 @@ pub fn is_idle(stage: Stage) -> bool
     ensures { result ≡ is_idle stage }
 {
     matches!(stage, Stage::Idle)
+}
+
+/// Whether a station has no entry to withdraw: it is idle, or its entry is withdrawn already.
+pub fn is_gone<K: Key>(t: Station<K>) -> bool
+    ensures { result ≡ (is_idle t.stage || t.withdrawn) }
+{
+    is_idle(t.stage) || t.withdrawn
 }
 
 /// The answer of an entry, once it has one.

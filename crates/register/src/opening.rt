@@ -12,6 +12,7 @@ use stages::wrong_size;
 pub fn clear<K: Key>(cells: &mut [Cell<K>], filler: K)
     ensures { cells.new ≡ map (blank filler) cells.old }
 {
+    // `fill` asks that a clone of the key cannot fail, which `Key` does not say.
     for c in cells.iter_mut() {
         *c = Cell::empty(filler);
     }

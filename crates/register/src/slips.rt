@@ -22,7 +22,7 @@ pub struct Refused {
 
 impl Slip {
     /// The check that the slip is one of the register of this number.
-    pub(crate) fn check(&self, number: u32) -> Result<(), Refusal>
+    pub(crate) fn check_register(&self, number: u32) -> Result<(), Refusal>
         ensures { result ≡ refused_when (not (self.now.register == number)) OtherRegister }
     {
         if self.register == number {
