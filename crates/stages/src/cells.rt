@@ -57,6 +57,8 @@ pub fn seen_at<K: Key>(cells: &[Cell<K>], place: usize) -> Sight
     }
 }
 
+// The walk and the shift are functions over a slice of cells, by a rule of the project: cells and key stay parameters of each.
+
 /// How the key at a place stands to this one, if the place holds a key.
 pub fn order_at<K: Key>(cells: &[Cell<K>], key: K, place: usize) -> Option<Ordering>
     ensures value { versus_of result ≡ versus (kind_over K.order K.home (length cells.now)) key (contents cells.now place) }
