@@ -26,10 +26,6 @@ sized n e = (grind arith, grind arith)
 
 -- a whole entry, from what its steps have come to
 module _ {K : Type 0} {N : ℕ} (κ : Kind K N) (w : World K) (k : K) where
-  pub size_refused : true ≡ bad_size N → (w, Err WrongSize) ≡ whole_entry κ w k
-  unfolding whole_entry refused_if
-  size_refused e = sym (ap (λ b. refused_if b WrongSize w (whole_entry_by w (alone κ (enough N) k w.cells Home))) (sym e))
-
   entered : bad_size N ≡ false → (o : List (Cell K) × Stage) → o ≡ alone κ (enough N) k w.cells Home → whole_entry_by w o ≡ whole_entry κ w k
   unfolding whole_entry refused_if
   entered e o h =

@@ -1,5 +1,6 @@
 -- What the holder of a slip can rely on: from the beginning on, through any steps, refused collections and turns of others, its withdrawal is not refused.
 use Rattle.std.proofs.Common.{◌≡◌, ℕ, zero, suc, ◌<◌, Bool, true, false, not, ◌&&◌, ◌||◌, eqb, ◌≢◌, List, [], ◌∷◌, length, Some, None, Ok, Err, Option, Result, Ordering, Less, Equal, Greater, sym, refl, ap, ◌∙◌, subst, arith, length-set}
+use Rattle.std.proofs.lemmas.Bool.{and_parts, not-true}
 use Rattle.std.proofs.lemmas.Bool.Decides.{nat_tests}
 use Rattle.protocol.specs.declared.Cell.{Cell}
 use Rattle.protocol.specs.declared.Station.{Station}
@@ -38,29 +39,22 @@ pub record Open {K : Type 0} (w : World K) (number s : ℕ) : Type 0 where
 pub open_spendable : {K : Type 0} (w : World K) (number s : ℕ) → Open w number s → spendable w number s ≡ true
 open_spendable w number s g = let same : eqb w.number number ≡ true = grind (arith, nat_tests, g.ours) in rw (g.size, g.count, same, g.there, g.begun, g.stays) refl
 
-both_true : (a b : Bool) → (a && b) ≡ true → (a ≡ true) × (b ≡ true)
-both_true true b e = (refl, e)
-both_true false b e = let z : ◌≡◌ {A = ℕ} 0 1 = cc in absurd (omega arith)
-
-not_true : (a : Bool) → not a ≡ true → a ≡ false
-not_true a e = grind (arith, nat_tests)
-
 pub spendable_open : {K : Type 0} (w : World K) (number s : ℕ) → spendable w number s ≡ true → Open w number s
 spendable_open {K} w number s e =
     let record_is = awaited (nth w.stations s) in
-    let p = both_true (not (bad_size (length w.cells))) (not (bad_count (length w.stations)) && (eqb w.number number && record_is)) e in
-    let q = both_true (not (bad_count (length w.stations))) (eqb w.number number && record_is) p.1 in
-    let r = both_true (eqb w.number number) record_is q.1 in
+    let p = and_parts (not (bad_size (length w.cells))) (not (bad_count (length w.stations)) && (eqb w.number number && record_is)) e in
+    let q = and_parts (not (bad_count (length w.stations))) (eqb w.number number && record_is) p.1 in
+    let r = and_parts (eqb w.number number) record_is q.1 in
     let same : eqb w.number number ≡ true = r.0 in
     let ours : w.number ≡ number = grind (arith, nat_tests) in
-    go (nth w.stations s) refl (not_true (bad_size (length w.cells)) p.0) (not_true (bad_count (length w.stations)) q.0) ours r.1
+    go (nth w.stations s) refl (not-true (bad_size (length w.cells)) p.0) (not-true (bad_count (length w.stations)) q.0) ours r.1
   where
     go : (o : Option (Station K)) → nth w.stations s ≡ o → bad_size (length w.cells) ≡ false → bad_count (length w.stations) ≡ false → w.number ≡ number
         → awaited o ≡ true → Open w number s
     go None there size count ours a = let z : ◌≡◌ {A = ℕ} 0 1 = cc in absurd (omega arith)
     go (Some t) there size count ours a =
-        let p = both_true (not (is_idle t.stage)) (not t.withdrawn) a in
-        record { size = size; count = count; ours = ours; t = t; there = there; begun = not_true (is_idle t.stage) p.0; stays = not_true t.withdrawn p.1 }
+        let p = and_parts (not (is_idle t.stage)) (not t.withdrawn) a in
+        record { size = size; count = count; ours = ours; t = t; there = there; begun = not-true (is_idle t.stage) p.0; stays = not-true t.withdrawn p.1 }
 
 abbrev slip_in : SlipNumbers → Result SlipNumbers Refusal → SlipNumbers
 slip_in d (Ok n) = n

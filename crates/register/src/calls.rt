@@ -3,47 +3,16 @@ ghost use Rattle.std.specs.Prelude.{◌≡◌, ℕ, List, length};
 ghost use Rattle.protocol.specs.declared.Cell.{Cell as CellOf};
 ghost use Rattle.protocol.specs.declared.Station.{Station as StationOf};
 ghost use Rattle.protocol.specs.Step.{kind_over};
-ghost use Rattle.protocol.specs.Calls.{fresh, idled, leaving, beginning, collecting, withdrawing, stepping, whole_entry, question};
-ghost use Rattle.register.specs.Memory.{world, hands_out, hands_back};
+ghost use Rattle.protocol.specs.Calls.{beginning, collecting, withdrawing, stepping, whole_entry, question};
+ghost use Rattle.register.specs.Memory.{world, hands_out};
 
-use crate::checks::{answer_at, to_begin, to_collect, to_step, to_withdraw};
-use crate::slips::{Refused, Slip};
+use crate::checks::{answer_at, check_size, is_gone, is_idle, record_at};
+use crate::slips::Slip;
 use keys::Key;
 use protocol::{Answer, Cell, Departure, Progress, Refusal, Stage, Station};
-use stages::{Entry, held_at, holds_mark, progress, settle, stays_withdrawn, wrong_size};
+use stages::{Entry, held_at, holds_mark, is_busy, progress, settle, stays_withdrawn, wrong_size};
 
-/// A station's record once it is idle: it keeps its last key.
-pub fn rested<K: Key>(t: Station<K>) -> Station<K>
-    ensures { result ≡ idled t }
-{
-    Station {
-        key: t.key,
-        stage: Stage::Idle,
-        withdrawn: false,
-    }
-}
-
-/// The record of a station whose entry is withdrawn and goes on.
-fn departing<K: Key>(t: Station<K>) -> Station<K>
-    ensures { result ≡ leaving t }
-{
-    Station {
-        key: t.key,
-        stage: t.stage,
-        withdrawn: true,
-    }
-}
-
-/// The record of a station that begins an entry.
-fn started<K: Key>(key: K) -> Station<K>
-    ensures { result ≡ fresh key }
-{
-    Station {
-        key,
-        stage: Stage::Home,
-        withdrawn: false,
-    }
-}
+// The number of cells and the register's number stay two parameters beside the records: those are the caller's, lent for the one call.
 
 /// A beginning, of `n` cells.
 pub fn begin<K: Key>(
@@ -55,16 +24,19 @@ pub fn begin<K: Key>(
 ) -> Result<Slip, Refusal>
     ensures { (cs : List (CellOf K)) → (world number cs stations.new, result) ≡ hands_out (beginning n (world number cs stations.old) s key) }
 {
-    match to_begin(n, stations, s) {
-        Err(refusal) => Err(refusal),
-        Ok(_t) => {
-            stations[s] = started(key);
-            Ok(Slip {
-                register: number,
-                station: s,
-            })
-        }
+    check_size(n)?;
+    let t = record_at(stations, s)?;
+    if !is_idle(t.stage) {
+        return Err(Refusal::NotIdle);
     }
+    stations[s] = Station {
+        stage: Stage::Home,
+        ..Station::idle(key)
+    };
+    Ok(Slip {
+        register: number,
+        station: s,
+    })
 }
 
 /// A collection, of `n` cells.
@@ -72,25 +44,19 @@ pub fn collect<K: Key>(
     n: usize,
     number: u32,
     stations: &mut [Station<K>],
-    slip: Slip,
-) -> Result<Answer, Refused>
-    ensures { (cs : List (CellOf K)) → (world number cs stations.new, result) ≡ hands_back slip (collecting n (world number cs stations.old) slip.register slip.station) }
+    slip: &Slip,
+) -> Result<Answer, Refusal>
+    ensures { (cs : List (CellOf K)) → (world number cs stations.new, result) ≡ collecting n (world number cs stations.old) slip.now.register slip.now.station }
 {
-    let s = slip.station;
-    match to_collect(n, slip.register == number, stations, s) {
-        Err(refusal) => Err(Refused { slip, refusal }),
-        Ok(t) => match answer_at(t.stage) {
-            Err(refusal) => Err(Refused { slip, refusal }),
-            Ok(answer) => {
-                let Slip {
-                    register: _,
-                    station: _,
-                } = slip;
-                stations[s] = rested(t);
-                Ok(answer)
-            }
-        },
+    check_size(n)?;
+    slip.check_register(number)?;
+    let t = record_at(stations, slip.station)?;
+    if t.withdrawn {
+        return Err(Refusal::NoEntry);
     }
+    let answer = answer_at(t.stage)?;
+    stations[slip.station] = Station::idle(t.key);
+    Ok(answer)
 }
 
 /// A withdrawal, of `n` cells.
@@ -98,26 +64,25 @@ pub fn withdraw<K: Key>(
     n: usize,
     number: u32,
     stations: &mut [Station<K>],
-    slip: Slip,
-) -> Result<Departure, Refused>
-    ensures { (cs : List (CellOf K)) → (world number cs stations.new, result) ≡ hands_back slip (withdrawing n (world number cs stations.old) slip.register slip.station) }
+    slip: &Slip,
+) -> Result<Departure, Refusal>
+    ensures { (cs : List (CellOf K)) → (world number cs stations.new, result) ≡ withdrawing n (world number cs stations.old) slip.now.register slip.now.station }
 {
-    let s = slip.station;
-    match to_withdraw(n, slip.register == number, stations, s) {
-        Err(refusal) => Err(Refused { slip, refusal }),
-        Ok(t) => {
-            let Slip {
-                register: _,
-                station: _,
-            } = slip;
-            if holds_mark(n, t.stage) {
-                stations[s] = departing(t);
-                Ok(Departure::GoesOn)
-            } else {
-                stations[s] = rested(t);
-                Ok(Departure::Gone)
-            }
-        }
+    check_size(n)?;
+    slip.check_register(number)?;
+    let t = record_at(stations, slip.station)?;
+    if is_gone(t) {
+        return Err(Refusal::NoEntry);
+    }
+    if holds_mark(n, t.stage) {
+        stations[slip.station] = Station {
+            withdrawn: true,
+            ..t
+        };
+        Ok(Departure::GoesOn)
+    } else {
+        stations[slip.station] = Station::idle(t.key);
+        Ok(Departure::Gone)
     }
 }
 
@@ -129,11 +94,15 @@ pub fn step<K: Key>(
 ) -> Result<Progress, Refusal>
     ensures { (number : ℕ) → (world number cells.new stations.new, result) ≡ stepping (kind_over K.order K.home (length cells.old)) (world number cells.old stations.old) s }
 {
+    check_size(cells.len())?;
     let Station {
         key,
         stage,
         withdrawn,
-    } = to_step(cells.len(), stations, s)?;
+    } = record_at(stations, s)?;
+    if !is_busy(stage) {
+        return Err(Refusal::NoEntry);
+    }
     let mut entry = Entry { key, stage };
     entry.turn(cells)?;
     let stage = settle(entry.stage, withdrawn);
@@ -149,9 +118,7 @@ pub fn step<K: Key>(
 pub fn enter<K: Key>(cells: &mut [Cell<K>], key: K) -> Result<Answer, Refusal>
     ensures { (number : ℕ) (ts : List (StationOf K)) → (world number cells.new ts, result) ≡ whole_entry (kind_over K.order K.home (length cells.old)) (world number cells.old ts) key }
 {
-    if wrong_size(cells.len()) {
-        return Err(Refusal::WrongSize);
-    }
+    check_size(cells.len())?;
     let mut fresh = Entry {
         key,
         stage: Stage::Home,

@@ -1,13 +1,13 @@
-//! The checks of each call, from top to bottom: the record of the station that the call is about, or the refusal.
-ghost use Rattle.std.specs.Prelude.{◌≡◌, ◌<◌, ◌≤◌, true, length, Some, None, Ok, Err};
-ghost use Rattle.protocol.specs.Cells.{nth};
-ghost use Rattle.protocol.specs.Stages.{standing, names_cells, busy};
+//! The checks of the calls: each is the refusal, or what the call goes on with.
+ghost use Rattle.std.specs.Prelude.{◌≡◌, ◌<◌, ◌||◌, length, IfOk};
+ghost use Rattle.protocol.specs.declared.Refusal.TheVariants.{WrongSize};
+ghost use Rattle.protocol.specs.Stages.{standing, is_idle};
 ghost use Rattle.protocol.specs.Calls.{bad_size, bad_count};
-ghost use Rattle.register.specs.Checks.{admitted, to_begin, to_step, to_withdraw, to_collect, answer_by};
+ghost use Rattle.register.specs.Checks.{refused_when, seat, answer_by};
 
 use keys::Key;
 use protocol::{Answer, Refusal, Stage, Station};
-use stages::{is_busy, names_cells, wrong_size};
+use stages::wrong_size;
 
 /// Whether there are no stations or more than 64.
 pub fn wrong_count(n: usize) -> bool
@@ -16,104 +16,40 @@ pub fn wrong_count(n: usize) -> bool
     n == 0 || n > 64
 }
 
-/// The record of a station, if there is one of that number.
-fn record_at<K: Key>(stations: &[Station<K>], s: usize) -> Option<Station<K>>
-    ensures value { result ≡ nth stations.now s }
-    ensures within { elim result [ None ↦ Unit {0} | Some t ↦ s < length stations.now ] }
+/// The check of the number of cells.
+pub fn check_size(n: usize) -> Result<(), Refusal>
+    ensures { result ≡ refused_when (bad_size n) WrongSize }
 {
-    if s < stations.len() {
-        Some(stations[s])
+    if wrong_size(n) {
+        Err(Refusal::WrongSize)
     } else {
-        None
+        Ok(())
     }
 }
 
-/// What calls check first: the number of cells, whether a slip is one of this register's (`ours`), and the station.
-fn admit<K: Key>(
-    n: usize,
-    ours: bool,
-    stations: &[Station<K>],
-    s: usize,
-) -> Result<Station<K>, Refusal>
-    ensures value { result ≡ admitted n ours stations.now s }
-    ensures within { elim result [ Err e ↦ Unit {0} | Ok t ↦ (1 ≤ n) × (n ≤ 65536) × (s < length stations.now) ] }
+/// The record of a station.
+pub fn record_at<K: Key>(stations: &[Station<K>], s: usize) -> Result<Station<K>, Refusal>
+    ensures value { result ≡ seat stations.now s }
+    ensures within { IfOk result (λ _. s < length stations.now) }
 {
-    if wrong_size(n) {
-        return Err(Refusal::WrongSize);
-    }
-    if !ours {
-        return Err(Refusal::OtherRegister);
-    }
     if wrong_count(stations.len()) {
         return Err(Refusal::NoStation);
     }
-    match record_at(stations, s) {
-        None => Err(Refusal::NoStation),
-        Some(t) => Ok(t),
-    }
+    stations.get(s).copied().ok_or(Refusal::NoStation)
 }
 
-/// The checks of a beginning.
-pub fn to_begin<K: Key>(n: usize, stations: &[Station<K>], s: usize) -> Result<Station<K>, Refusal>
-    ensures value { result ≡ to_begin n stations.now s }
-    ensures within { elim result [ Err e ↦ Unit {0} | Ok t ↦ s < length stations.now ] }
+/// Whether a station at this stage is idle.
+pub fn is_idle(stage: Stage) -> bool
+    ensures { result ≡ is_idle stage }
 {
-    let t = admit(n, true, stations, s)?;
-    match t.stage {
-        Stage::Idle => Ok(t),
-        _ => Err(Refusal::NotIdle),
-    }
+    matches!(stage, Stage::Idle)
 }
 
-/// The checks of a step.
-pub fn to_step<K: Key>(n: usize, stations: &[Station<K>], s: usize) -> Result<Station<K>, Refusal>
-    ensures value { result ≡ to_step n stations.now s }
-    ensures within { elim result [ Err e ↦ Unit {0} | Ok t ↦ (1 ≤ n) × (n ≤ 65536) × (s < length stations.now) × (names_cells n t.stage ≡ true) ] }
+/// Whether a station has no entry to withdraw: it is idle, or its entry is withdrawn already.
+pub fn is_gone<K: Key>(t: Station<K>) -> bool
+    ensures { result ≡ (is_idle t.stage || t.withdrawn) }
 {
-    let t = admit(n, true, stations, s)?;
-    if !is_busy(t.stage) {
-        return Err(Refusal::NoEntry);
-    }
-    if !names_cells(n, t.stage) {
-        return Err(Refusal::NoCell);
-    }
-    Ok(t)
-}
-
-/// The checks of a withdrawal.
-pub fn to_withdraw<K: Key>(
-    n: usize,
-    ours: bool,
-    stations: &[Station<K>],
-    s: usize,
-) -> Result<Station<K>, Refusal>
-    ensures value { result ≡ to_withdraw n ours stations.now s }
-    ensures within { elim result [ Err e ↦ Unit {0} | Ok t ↦ s < length stations.now ] }
-{
-    let t = admit(n, ours, stations, s)?;
-    match (t.stage, t.withdrawn) {
-        (Stage::Idle, _) => Err(Refusal::NoEntry),
-        (_, true) => Err(Refusal::NoEntry),
-        (_, false) => Ok(t),
-    }
-}
-
-/// The checks of a collection, but for the answer.
-pub fn to_collect<K: Key>(
-    n: usize,
-    ours: bool,
-    stations: &[Station<K>],
-    s: usize,
-) -> Result<Station<K>, Refusal>
-    ensures value { result ≡ to_collect n ours stations.now s }
-    ensures within { elim result [ Err e ↦ Unit {0} | Ok t ↦ s < length stations.now ] }
-{
-    let t = admit(n, ours, stations, s)?;
-    if t.withdrawn {
-        Err(Refusal::NoEntry)
-    } else {
-        Ok(t)
-    }
+    is_idle(t.stage) || t.withdrawn
 }
 
 /// The answer of an entry, once it has one.

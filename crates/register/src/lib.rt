@@ -71,7 +71,8 @@ impl<'a, K: Key> Register<'a, K> {
     pub fn collect(&mut self, stations: &mut [Station<K>], slip: Slip) -> Result<Answer, Refused>
         ensures { (behind self.new stations.new, result) ≡ hands_back slip (turned K.order K.home (behind self.old stations.old) (Collect slip.register slip.station)) }
     {
-        calls::collect(self.cells.len(), self.number, stations, slip)
+        let said = calls::collect(self.cells.len(), self.number, stations, &slip);
+        slip.spend(said)
     }
 
     /// Withdraws an entry: spends its slip. An entry that holds a mark goes on. A refused slip comes back.
@@ -82,7 +83,8 @@ impl<'a, K: Key> Register<'a, K> {
     ) -> Result<Departure, Refused>
         ensures { (behind self.new stations.new, result) ≡ hands_back slip (turned K.order K.home (behind self.old stations.old) (Withdraw slip.register slip.station)) }
     {
-        calls::withdraw(self.cells.len(), self.number, stations, slip)
+        let said = calls::withdraw(self.cells.len(), self.number, stations, &slip);
+        slip.spend(said)
     }
 
     /// A whole entry: a fresh station's steps in one call. It is refused where a mark bars it, and has then written nothing.

@@ -1,31 +1,20 @@
 //! The opening: cells and station records are prepared in place.
-ghost use Rattle.std.specs.Prelude.{◌≡◌, ℕ, false, map};
+ghost use Rattle.std.specs.Prelude.{◌≡◌, ℕ, map};
 ghost use Rattle.protocol.specs.Calls.{blank, idled, opening};
 ghost use Rattle.register.specs.Memory.{world};
 
-use crate::calls::rested;
 use crate::checks::wrong_count;
 use keys::Key;
 use protocol::{Cell, Station};
 use stages::wrong_size;
 
-/// An empty, unmarked cell with this filler.
-fn blank_cell<K: Key>(filler: K) -> Cell<K>
-    ensures { result ≡ record { key = filler; occupied = false; marked = false } }
-{
-    Cell {
-        key: filler,
-        occupied: false,
-        marked: false,
-    }
-}
-
 /// Empties and unmarks every cell, and writes the filler there.
 pub fn clear<K: Key>(cells: &mut [Cell<K>], filler: K)
     ensures { cells.new ≡ map (blank filler) cells.old }
 {
+    // `fill` asks that a clone of the key cannot fail, which `Key` does not say.
     for c in cells.iter_mut() {
-        *c = blank_cell(filler);
+        *c = Cell::empty(filler);
     }
 }
 
@@ -33,8 +22,8 @@ pub fn clear<K: Key>(cells: &mut [Cell<K>], filler: K)
 pub fn rest<K: Key>(stations: &mut [Station<K>])
     ensures { stations.new ≡ map idled stations.old }
 {
-    for i in 0..stations.len() {
-        stations[i] = rested(stations[i]);
+    for t in stations.iter_mut() {
+        *t = Station::idle(t.key);
     }
 }
 

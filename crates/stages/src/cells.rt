@@ -1,45 +1,70 @@
 //! The cells, read and changed by place: place 0 is the left edge, i + 1 is cell i, and N + 1 is the right edge.
 //!
 //! An edge is neither occupied nor marked, and nothing is written there.
-ghost use Rattle.std.specs.Prelude.{◌≡◌, ◌≤◌, length, Some, None};
-ghost use Rattle.protocol.specs.Cells.{contents, marks, alter_place, with_mark, with_key, cells_after};
+ghost use Rattle.std.specs.Prelude.{◌≡◌, ◌≤◌, ◌<◌, suc, length, Some, None, IfSome};
+ghost use Rattle.protocol.specs.Cells.{cell, contents, marks, alter_place, with_mark, with_key, cells_after, is_occupied};
 ghost use Rattle.protocol.specs.Step.{kind_over, walk_at, versus, beside};
-ghost use Rattle.stages.specs.Readings.{order_of, due_of};
+ghost use Rattle.stages.specs.Readings.{cell_at, versus_of, due_of};
 
 use keys::Key;
 use protocol::{Act, Cell, Direction, Walk};
 use std::cmp::Ordering;
+
+/// What is seen of a place. An edge is neither marked nor occupied.
+#[derive(Clone, Copy)]
+pub struct Sight {
+    pub marked: bool,
+    pub occupied: bool,
+}
+
+/// Whether a place is a cell, of `n` cells. If not, it is an edge.
+pub fn is_cell(n: usize, place: usize) -> bool
+    ensures { result ≡ cell n place }
+{
+    0 < place && place <= n
+}
+
+/// The cell at a place, if the place is no edge.
+fn cell_at<K: Key>(cells: &[Cell<K>], place: usize) -> Option<Cell<K>>
+    ensures { result ≡ cell_at cells.now place }
+{
+    cells.get(place.checked_sub(1)?).copied()
+}
 
 /// The key at a place, if it is an occupied cell.
 pub fn held_at<K: Key>(cells: &[Cell<K>], place: usize) -> Option<K>
     ensures value { result ≡ contents cells.now place }
     ensures inside { elim result [ None ↦ Unit {0} | Some x ↦ place ≤ length cells.now ] }
 {
-    if place == 0 || place > cells.len() {
-        return None;
-    }
-    let c = cells[place - 1];
-    if c.occupied { Some(c.key) } else { None }
+    let cell = cell_at(cells, place)?;
+    cell.occupied.then_some(cell.key)
 }
 
-/// Whether a place is a marked cell.
-pub fn marked_at<K: Key>(cells: &[Cell<K>], place: usize) -> bool
-    ensures { result ≡ marks cells.now place }
+/// The mark of a place, and whether it is occupied.
+pub fn seen_at<K: Key>(cells: &[Cell<K>], place: usize) -> Sight
+    ensures marked { result.marked ≡ marks cells.now place }
+    ensures occupied { result.occupied ≡ is_occupied (contents cells.now place) }
 {
-    if place == 0 || place > cells.len() {
-        return false;
+    match cell_at(cells, place) {
+        Some(cell) => Sight {
+            marked: cell.marked,
+            occupied: cell.occupied,
+        },
+        None => Sight {
+            marked: false,
+            occupied: false,
+        },
     }
-    cells[place - 1].marked
 }
+
+// The walk and the shift are functions over a slice of cells, by a rule of the project: cells and key stay parameters of each.
 
 /// How the key at a place stands to this one, if the place holds a key.
 pub fn order_at<K: Key>(cells: &[Cell<K>], key: K, place: usize) -> Option<Ordering>
-    ensures { result ≡ order_of K.order key (contents cells.now place) }
+    ensures value { versus_of result ≡ versus (kind_over K.order K.home (length cells.now)) key (contents cells.now place) }
+    ensures inside { IfSome result (λ _. place ≤ length cells.now) }
 {
-    match held_at(cells, place) {
-        None => None,
-        Some(x) => Some(x.compare(key)),
-    }
+    Some(held_at(cells, place)?.compare(key))
 }
 
 /// The walk of look and check for a key whose home is at `h`, at the place `at`: the key itself, the walk's end, or the place to go on to.
@@ -47,93 +72,47 @@ pub fn walk<K: Key>(cells: &[Cell<K>], key: K, h: usize, at: usize) -> Walk
     requires few { length cells.now ≤ 65536 }
     ensures { result ≡ walk_at h at (versus (kind_over K.order K.home (length cells.now)) key (contents cells.now at)) }
 {
-    match held_at(cells, at) {
-        None => Walk::Ended,
-        Some(x) => match x.compare(key) {
-            Ordering::Equal => Walk::Here,
-            Ordering::Greater => {
-                if at <= h {
-                    Walk::Onward {
-                        to: at.saturating_sub(1),
-                    }
-                } else {
-                    Walk::Ended
-                }
-            }
-            Ordering::Less => {
-                if h <= at {
-                    Walk::Onward { to: at + 1 }
-                } else {
-                    Walk::Ended
-                }
-            }
+    match order_at(cells, key, at) {
+        Some(Ordering::Equal) => Walk::Here,
+        Some(Ordering::Greater) if at <= h => Walk::Onward {
+            to: at.saturating_sub(1),
         },
+        Some(Ordering::Less) if h <= at => Walk::Onward { to: at + 1 },
+        _ => Walk::Ended,
     }
 }
 
-/// The place beside the gap, on the side to which it moves.
-pub fn beside_gap(towards: Direction, gap: usize) -> usize
-    requires { gap ≤ 65536 }
-    ensures { result ≡ beside towards gap }
-{
-    match towards {
-        Direction::Leftward => gap,
-        Direction::Rightward => gap + 2,
-    }
-}
-
-/// The shift's copy: the key beside the gap, if it is due to be copied into the gap.
+/// The shift's copy: the key beside the gap, on the side to which the gap moves, if it is due to be copied into the gap.
 pub fn shift<K: Key>(cells: &[Cell<K>], key: K, towards: Direction, gap: usize) -> Option<K>
     requires { gap ≤ 65536 }
     ensures { result ≡ due_of K.order key towards (contents cells.now (beside towards gap)) }
 {
-    match held_at(cells, beside_gap(towards, gap)) {
-        None => None,
-        Some(x) => match (towards, x.compare(key)) {
-            (Direction::Leftward, Ordering::Greater) => Some(x),
-            (Direction::Rightward, Ordering::Less) => Some(x),
-            _ => None,
-        },
-    }
-}
-
-/// A cell with this mark, or without one.
-fn remarked<K: Key>(c: Cell<K>, marked: bool) -> Cell<K>
-    ensures { result ≡ with_mark marked c }
-{
-    Cell {
-        key: c.key,
-        occupied: c.occupied,
-        marked,
-    }
-}
-
-/// A cell with this key. It keeps its mark.
-fn rewritten<K: Key>(c: Cell<K>, key: K) -> Cell<K>
-    ensures { result ≡ with_key key c }
-{
-    Cell {
-        key,
-        occupied: true,
-        marked: c.marked,
-    }
+    let (beside, due) = match towards {
+        Direction::Leftward => (gap, Ordering::Greater),
+        Direction::Rightward => (gap + 2, Ordering::Less),
+    };
+    held_at(cells, beside).filter(|x| x.compare(key) == due)
 }
 
 /// Marks a place, or takes its mark away.
 fn set_mark<K: Key>(cells: &mut [Cell<K>], place: usize, marked: bool)
     ensures { cells.new ≡ alter_place (with_mark marked) place cells.old }
 {
-    if place > 0 && place <= cells.len() {
-        cells[place - 1] = remarked(cells[place - 1], marked);
+    if is_cell(cells.len(), place) {
+        cells[place - 1].marked = marked;
     }
 }
 
-/// Writes a key at a place.
+/// Writes a key at a place. The cell keeps its mark.
 fn put_key<K: Key>(cells: &mut [Cell<K>], place: usize, key: K)
     ensures { cells.new ≡ alter_place (with_key key) place cells.old }
 {
-    if place > 0 && place <= cells.len() {
-        cells[place - 1] = rewritten(cells[place - 1], key);
+    if is_cell(cells.len(), place) {
+        cells[place - 1] = Cell {
+            key,
+            occupied: true,
+            ..cells[place - 1]
+        };
     }
 }
 

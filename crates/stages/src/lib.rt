@@ -1,6 +1,6 @@
 //! One step of an entry: the stages of the protocol over cells in memory.
 //!
-//! `Entry::turn` makes one step: it reads what the stage asks for, sets the stage to the next one by the rule of the present one,
+//! `Entry::turn` makes one step: it sets the stage to the next one, by the rule of the present one and by the cells that it reads,
 //! and makes the one act on the cells. Its contract is one equation with the protocol's definition of a step.
 #![tactic(auto)]
 
@@ -12,7 +12,6 @@ ghost use Rattle.stages.specs.Turning.{turning};
 mod cells;
 mod rules;
 mod standing;
-mod steps;
 
 pub use cells::held_at;
 use keys::Key;
@@ -45,7 +44,8 @@ impl<K: Key> Entry<K> {
         if !names_cells(cells.len(), self.stage) {
             return Err(Refusal::NoCell);
         }
-        steps::turn(cells, self);
+        let act = self.advance(cells);
+        cells::perform(cells, act);
         Ok(())
     }
 }

@@ -1,29 +1,16 @@
-//! The rule of each stage: what it makes of what a step has read.
-ghost use Rattle.std.specs.Prelude.{◌≡◌, suc, ◌+◌, ◌<◌, ◌≤◌, true, ◌&&◌};
+//! The rule of each stage: what it makes of what is read of the cells.
+ghost use Rattle.std.specs.Prelude.{◌≡◌, suc, ◌≤◌, true, length};
 ghost use Rattle.protocol.specs.Cells.{cell};
 ghost use Rattle.protocol.specs.Stages.{names_cells};
-ghost use Rattle.protocol.specs.Step.{is_after, gap_after, at_home, at_look, at_left, at_right, at_first, give_up, at_second, absent, at_check, release};
-ghost use Rattle.stages.specs.Readings.{versus_of, move_of, at_gap, told};
+ghost use Rattle.protocol.specs.Step.{kind_over, is_after, at_home, at_look, at_left, at_right, at_first, give_up, at_second, absent, at_check, release};
+ghost use Rattle.protocol.specs.Calls.{decision};
+ghost use Rattle.stages.specs.Readings.{versus_of, move_of, at_gap};
 
 use crate::Entry;
+use crate::cells::{Sight, is_cell, order_at, seen_at, shift, walk};
 use keys::Key;
-use protocol::{Act, Answer, Direction, Stage, Walk};
+use protocol::{Act, Answer, Cell, Direction, Stage, Walk};
 use std::cmp::Ordering;
-
-/// What a step has read of the cells. What its stage does not ask for is left as an edge reads.
-#[derive(Drop)]
-pub struct Reading<K> {
-    /// Whether the place is marked.
-    pub marked: bool,
-    /// Whether the place is occupied.
-    pub occupied: bool,
-    /// How the key at home stands to the key being entered.
-    pub order: Option<Ordering>,
-    /// What the walk of look and check finds.
-    pub walk: Walk,
-    /// The key that a shift is to copy.
-    pub copy: Option<K>,
-}
 
 /// What a step comes to: the next stage, and the one act on the cells.
 pub struct Move<K> {
@@ -31,11 +18,26 @@ pub struct Move<K> {
     pub act: Act<K>,
 }
 
-/// Whether a place is a cell, of `n` cells. If not, it is an edge.
-pub fn is_cell(n: usize, place: usize) -> bool
-    ensures { result ≡ cell n place }
-{
-    0 < place && place <= n
+/// The boundaries of an entry, places of `n` cells. A boundary that is no cell is an edge.
+#[derive(Clone, Copy)]
+struct Boundaries {
+    n: usize,
+    left: usize,
+    right: usize,
+}
+
+impl Boundaries {
+    fn left_is_cell(self) -> bool
+        ensures { result ≡ cell self.n self.left }
+    {
+        is_cell(self.n, self.left)
+    }
+
+    fn right_is_cell(self) -> bool
+        ensures { result ≡ cell self.n self.right }
+    {
+        is_cell(self.n, self.right)
+    }
 }
 
 /// Goes to a stage, and leaves the cells alone.
@@ -89,13 +91,13 @@ fn at_look<K: Key>(h: usize, walk: Walk) -> Move<K>
 }
 
 /// Left. Marked: home. Occupied: one further left. Otherwise the place is the left boundary, and next is right, beside home.
-fn at_left<K: Key>(h: usize, at: usize, marked: bool, occupied: bool) -> Move<K>
+fn at_left<K: Key>(h: usize, at: usize, seen: Sight) -> Move<K>
     requires { h ≤ 65536 }
-    ensures { result ≡ move_of (at_left h at marked occupied) }
+    ensures { result ≡ move_of (at_left h at seen.marked seen.occupied) }
 {
-    if marked {
+    if seen.marked {
         to(Stage::Home)
-    } else if occupied {
+    } else if seen.occupied {
         to(Stage::Left {
             at: at.saturating_sub(1),
         })
@@ -108,13 +110,13 @@ fn at_left<K: Key>(h: usize, at: usize, marked: bool, occupied: bool) -> Move<K>
 }
 
 /// Right. Marked: home. Occupied: one further right. Otherwise the place is the right boundary, and next is first mark.
-fn at_right<K: Key>(left: usize, at: usize, marked: bool, occupied: bool) -> Move<K>
+fn at_right<K: Key>(left: usize, at: usize, seen: Sight) -> Move<K>
     requires { at ≤ 65537 }
-    ensures { result ≡ move_of (at_right left at marked occupied) }
+    ensures { result ≡ move_of (at_right left at seen.marked seen.occupied) }
 {
-    if marked {
+    if seen.marked {
         to(Stage::Home)
-    } else if occupied {
+    } else if seen.occupied {
         to(Stage::Right { left, at: at + 1 })
     } else {
         to(Stage::FirstMark { left, right: at })
@@ -122,12 +124,13 @@ fn at_right<K: Key>(left: usize, at: usize, marked: bool, occupied: bool) -> Mov
 }
 
 /// First mark. An edge is taken as it is, an empty unmarked cell is marked; otherwise home.
-fn at_first<K: Key>(n: usize, left: usize, right: usize, marked: bool, occupied: bool) -> Move<K>
-    ensures { result ≡ move_of (at_first left right (cell n left) marked occupied) }
+fn at_first<K: Key>(ends: Boundaries, seen: Sight) -> Move<K>
+    ensures { result ≡ move_of (at_first ends.left ends.right (cell ends.n ends.left) seen.marked seen.occupied) }
 {
-    if !is_cell(n, left) {
+    let Boundaries { left, right, .. } = ends;
+    if !ends.left_is_cell() {
         to(Stage::SecondMark { left, right })
-    } else if marked || occupied {
+    } else if seen.marked || seen.occupied {
         to(Stage::Home)
     } else {
         Move {
@@ -138,12 +141,12 @@ fn at_first<K: Key>(n: usize, left: usize, right: usize, marked: bool, occupied:
 }
 
 /// The right boundary was not to be had: give back the left one if it is a cell, else home.
-fn give_up<K: Key>(n: usize, left: usize) -> Move<K>
-    ensures { result ≡ move_of (give_up left (cell n left)) }
+fn give_up<K: Key>(ends: Boundaries) -> Move<K>
+    ensures { result ≡ move_of (give_up ends.left (cell ends.n ends.left)) }
 {
-    if is_cell(n, left) {
+    if ends.left_is_cell() {
         to(Stage::GiveBack {
-            cell: left.saturating_sub(1),
+            cell: ends.left.saturating_sub(1),
         })
     } else {
         to(Stage::Home)
@@ -151,21 +154,15 @@ fn give_up<K: Key>(n: usize, left: usize) -> Move<K>
 }
 
 /// Second mark. An edge is taken as it is, an empty unmarked cell is marked, and next is check, at home; otherwise the entry gives up.
-fn at_second<K: Key>(
-    n: usize,
-    h: usize,
-    left: usize,
-    right: usize,
-    marked: bool,
-    occupied: bool,
-) -> Move<K>
-    ensures { result ≡ move_of (at_second h left right (cell n left) (cell n right) marked occupied) }
+fn at_second<K: Key>(h: usize, ends: Boundaries, seen: Sight) -> Move<K>
+    ensures { result ≡ move_of (at_second h ends.left ends.right (cell ends.n ends.left) (cell ends.n ends.right) seen.marked seen.occupied) }
 {
+    let Boundaries { left, right, .. } = ends;
     let next = Stage::Check { left, right, at: h };
-    if !is_cell(n, right) {
+    if !ends.right_is_cell() {
         to(next)
-    } else if marked || occupied {
-        give_up(n, left)
+    } else if seen.marked || seen.occupied {
+        give_up(ends)
     } else {
         Move {
             next,
@@ -176,16 +173,17 @@ fn at_second<K: Key>(
 
 /// The end of the check's walk. Both boundaries edges: full. Otherwise shift: the gap starts at the right boundary if that is a cell and
 /// either the key at home is after this one or the left boundary is the edge; else at the left one.
-fn absent<K: Key>(n: usize, left: usize, right: usize, after: bool) -> Move<K>
-    ensures { result ≡ move_of (absent left right (cell n left) (cell n right) after) }
+fn absent<K: Key>(ends: Boundaries, after: bool) -> Move<K>
+    ensures { result ≡ move_of (absent ends.left ends.right (cell ends.n ends.left) (cell ends.n ends.right) after) }
 {
-    if !is_cell(n, left) && !is_cell(n, right) {
+    let Boundaries { left, right, .. } = ends;
+    if !ends.left_is_cell() && !ends.right_is_cell() {
         to(Stage::ReleaseLeft {
             left,
             right,
             answer: Answer::Full,
         })
-    } else if is_cell(n, right) && (after || !is_cell(n, left)) {
+    } else if ends.right_is_cell() && (after || !ends.left_is_cell()) {
         to(Stage::Shift {
             towards: Direction::Leftward,
             left,
@@ -202,73 +200,58 @@ fn absent<K: Key>(n: usize, left: usize, right: usize, after: bool) -> Move<K>
     }
 }
 
-/// Whether a key that was read is after the one being entered.
-fn is_after(order: Option<Ordering>) -> bool
-    ensures { result ≡ is_after (versus_of order) }
-{
-    match order {
-        Some(Ordering::Greater) => true,
-        _ => false,
-    }
-}
-
 /// Check. The key: found, and the boundaries are released. At the walk's end the key is absent. Otherwise one place on.
-fn at_check<K: Key>(n: usize, left: usize, right: usize, after: bool, walk: Walk) -> Move<K>
-    ensures { result ≡ move_of (at_check left right (cell n left) (cell n right) after walk) }
+fn at_check<K: Key>(ends: Boundaries, order: Option<Ordering>, walk: Walk) -> Move<K>
+    ensures { result ≡ move_of (at_check ends.left ends.right (cell ends.n ends.left) (cell ends.n ends.right) (is_after (versus_of order)) walk) }
 {
+    let Boundaries { left, right, .. } = ends;
     match walk {
         Walk::Here => to(Stage::ReleaseLeft {
             left,
             right,
             answer: Answer::Found,
         }),
-        Walk::Ended => absent(n, left, right, after),
+        Walk::Ended => absent(ends, matches!(order, Some(Ordering::Greater))),
         Walk::Onward { to: at } => to(Stage::Check { left, right, at }),
     }
 }
 
-/// The gap after a copy: the cell that the key was copied from.
-fn moved_gap(towards: Direction, gap: usize) -> usize
-    requires { gap ≤ 65536 }
-    ensures { result ≡ gap_after towards gap }
-{
-    match towards {
-        Direction::Leftward => gap.saturating_sub(1),
-        Direction::Rightward => gap + 1,
-    }
-}
-
-/// Shift. A key that is due is copied into the gap. Otherwise the key is written there, and the boundaries are released.
+/// Shift. A key that is due is copied into the gap, which moves to where that key stood. Otherwise the key is written there, and the
+/// boundaries are released.
 fn at_shift<K: Key>(
     key: K,
     towards: Direction,
-    left: usize,
-    right: usize,
+    ends: Boundaries,
     gap: usize,
     copy: Option<K>,
 ) -> Move<K>
     requires { gap ≤ 65536 }
-    ensures { result ≡ move_of (at_gap key towards left right gap copy) }
+    ensures { result ≡ move_of (at_gap key towards ends.left ends.right gap copy) }
 {
+    let Boundaries { left, right, .. } = ends;
     let place = gap + 1;
-    match copy {
-        Some(key) => Move {
-            next: Stage::Shift {
-                towards,
-                left,
-                right,
-                gap: moved_gap(towards, gap),
-            },
-            act: Act::Write { place, key },
-        },
-        None => Move {
+    let Some(key) = copy else {
+        return Move {
             next: Stage::ReleaseLeft {
                 left,
                 right,
                 answer: Answer::Inserted,
             },
             act: Act::Write { place, key },
+        };
+    };
+    let gap = match towards {
+        Direction::Leftward => gap.saturating_sub(1),
+        Direction::Rightward => gap + 1,
+    };
+    Move {
+        next: Stage::Shift {
+            towards,
+            left,
+            right,
+            gap,
         },
+        act: Act::Write { place, key },
     }
 }
 
@@ -298,44 +281,49 @@ fn at_give_back<K: Key>(cell: usize) -> Move<K>
 }
 
 impl<K: Key> Entry<K> {
-    /// Sets the stage to the next one, by the rule of the present one and by what was read, and tells the one act on the cells.
-    pub(crate) fn advance(&mut self, seen: Reading<K>, h: usize, n: usize) -> Act<K>
-        requires home { h ≤ 65536 }
-        requires few { n ≤ 65536 }
-        requires named { names_cells n self.old.stage ≡ true }
-        ensures stage { self.new ≡ record { key = self.old.key; stage = (told self.old.key h n self.old.stage seen).next } }
-        ensures act { result ≡ (told self.old.key h n self.old.stage seen).act }
+    /// Sets the stage to the next one, by the rule of the present one and by the cells that it reads, and tells the one act on them.
+    pub(crate) fn advance(&mut self, cells: &[Cell<K>]) -> Act<K>
+        requires some { 1 ≤ length cells.now }
+        requires few { length cells.now ≤ 65536 }
+        requires named { names_cells (length cells.now) self.old.stage ≡ true }
+        ensures stage { self.new ≡ record { key = self.old.key; stage = (decision (kind_over K.order K.home (length cells.now)) cells.now self.old.key self.old.stage).next } }
+        ensures act { result ≡ (decision (kind_over K.order K.home (length cells.now)) cells.now self.old.key self.old.stage).act }
     {
         let key = self.key;
+        let n = cells.len();
+        let h = key.home(n) + 1;
         let Move { next, act } = match self.stage {
-            Stage::Idle => to(Stage::Idle),
-            Stage::Home => at_home(key, h, seen.marked, seen.order),
-            Stage::Look { at: _ } => at_look(h, seen.walk),
-            Stage::Left { at } => at_left(h, at, seen.marked, seen.occupied),
-            Stage::Right { left, at } => at_right(left, at, seen.marked, seen.occupied),
+            Stage::Idle | Stage::Answered { .. } => to(self.stage),
+            Stage::Home => at_home(key, h, seen_at(cells, h).marked, order_at(cells, key, h)),
+            Stage::Look { at } => at_look(h, walk(cells, key, h, at)),
+            Stage::Left { at } => at_left(h, at, seen_at(cells, at)),
+            Stage::Right { left, at } => at_right(left, at, seen_at(cells, at)),
             Stage::FirstMark { left, right } => {
-                at_first(n, left, right, seen.marked, seen.occupied)
+                at_first(Boundaries { n, left, right }, seen_at(cells, left))
             }
             Stage::SecondMark { left, right } => {
-                at_second(n, h, left, right, seen.marked, seen.occupied)
+                at_second(h, Boundaries { n, left, right }, seen_at(cells, right))
             }
             Stage::GiveBack { cell } => at_give_back(cell),
-            Stage::Check { left, right, at: _ } => {
-                at_check(n, left, right, is_after(seen.order), seen.walk)
+            Stage::Check { left, right, at } => {
+                let walk = walk(cells, key, h, at);
+                at_check(Boundaries { n, left, right }, order_at(cells, key, h), walk)
             }
             Stage::Shift {
                 towards,
                 left,
                 right,
                 gap,
-            } => at_shift(key, towards, left, right, gap, seen.copy),
+            } => {
+                let copy = shift(cells, key, towards, gap);
+                at_shift(key, towards, Boundaries { n, left, right }, gap, copy)
+            }
             Stage::ReleaseLeft {
                 left,
                 right,
                 answer,
             } => release(n, left, Stage::ReleaseRight { right, answer }),
             Stage::ReleaseRight { right, answer } => release(n, right, Stage::Answered { answer }),
-            Stage::Answered { answer } => to(Stage::Answered { answer }),
         };
         self.stage = next;
         act

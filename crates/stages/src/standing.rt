@@ -3,18 +3,14 @@ ghost use Rattle.std.specs.Prelude.{◌≡◌, ◌≤◌, ◌&&◌};
 ghost use Rattle.protocol.specs.Stages.{busy, settled, holds_mark, is_place, names_cells};
 ghost use Rattle.protocol.specs.Calls.{says};
 
-use crate::rules::is_cell;
+use crate::cells::is_cell;
 use protocol::{Progress, Stage};
 
 /// Whether a station has a step to make: it is neither idle nor answered.
 pub fn is_busy(stage: Stage) -> bool
     ensures { result ≡ busy stage }
 {
-    match stage {
-        Stage::Idle => false,
-        Stage::Answered { answer: _ } => false,
-        _ => true,
-    }
+    !matches!(stage, Stage::Idle | Stage::Answered { .. })
 }
 
 /// Whether a number is a place of `n` cells: an edge or a cell.
@@ -29,30 +25,23 @@ pub fn names_cells(n: usize, stage: Stage) -> bool
     ensures { result ≡ names_cells n stage }
 {
     match stage {
-        Stage::Idle => true,
-        Stage::Home => true,
-        Stage::Look { at } => is_named(n, at),
-        Stage::Left { at } => is_named(n, at),
+        Stage::Idle | Stage::Home | Stage::Answered { .. } => true,
+        Stage::Look { at } | Stage::Left { at } => is_named(n, at),
         Stage::Right { left, at } => is_named(n, left) && is_named(n, at),
-        Stage::FirstMark { left, right } => is_named(n, left) && is_named(n, right),
-        Stage::SecondMark { left, right } => is_named(n, left) && is_named(n, right),
+        Stage::FirstMark { left, right }
+        | Stage::SecondMark { left, right }
+        | Stage::ReleaseLeft { left, right, .. } => is_named(n, left) && is_named(n, right),
         Stage::GiveBack { cell } => cell < n,
         Stage::Check { left, right, at } => {
-            is_named(n, left) && (is_named(n, right) && is_named(n, at))
+            is_named(n, left) && is_named(n, right) && is_named(n, at)
         }
         Stage::Shift {
-            towards: _,
             left,
             right,
             gap,
-        } => is_named(n, left) && (is_named(n, right) && gap < n),
-        Stage::ReleaseLeft {
-            left,
-            right,
-            answer: _,
-        } => is_named(n, left) && is_named(n, right),
-        Stage::ReleaseRight { right, answer: _ } => is_named(n, right),
-        Stage::Answered { answer: _ } => true,
+            ..
+        } => is_named(n, left) && is_named(n, right) && gap < n,
+        Stage::ReleaseRight { right, .. } => is_named(n, right),
     }
 }
 
@@ -61,21 +50,12 @@ pub fn holds_mark(n: usize, stage: Stage) -> bool
     ensures { result ≡ holds_mark n stage }
 {
     match stage {
-        Stage::SecondMark { left, right: _ } => is_cell(n, left),
+        Stage::SecondMark { left, .. } => is_cell(n, left),
         Stage::GiveBack { cell } => cell < n,
-        Stage::Check { left, right, at: _ } => is_cell(n, left) || is_cell(n, right),
-        Stage::Shift {
-            towards: _,
-            left,
-            right,
-            gap: _,
-        } => is_cell(n, left) || is_cell(n, right),
-        Stage::ReleaseLeft {
-            left,
-            right,
-            answer: _,
-        } => is_cell(n, left) || is_cell(n, right),
-        Stage::ReleaseRight { right, answer: _ } => is_cell(n, right),
+        Stage::Check { left, right, .. }
+        | Stage::Shift { left, right, .. }
+        | Stage::ReleaseLeft { left, right, .. } => is_cell(n, left) || is_cell(n, right),
+        Stage::ReleaseRight { right, .. } => is_cell(n, right),
         _ => false,
     }
 }
@@ -84,12 +64,8 @@ pub fn holds_mark(n: usize, stage: Stage) -> bool
 pub fn settle(stage: Stage, withdrawn: bool) -> Stage
     ensures { result ≡ settled withdrawn stage }
 {
-    if !withdrawn {
-        return stage;
-    }
     match stage {
-        Stage::Home => Stage::Idle,
-        Stage::Answered { answer: _ } => Stage::Idle,
+        Stage::Home | Stage::Answered { .. } if withdrawn => Stage::Idle,
         _ => stage,
     }
 }
@@ -107,7 +83,7 @@ pub fn progress(stage: Stage) -> Progress
 {
     match stage {
         Stage::Idle => Progress::Idle,
-        Stage::Answered { answer: _ } => Progress::Answered,
+        Stage::Answered { .. } => Progress::Answered,
         _ => Progress::GoesOn,
     }
 }

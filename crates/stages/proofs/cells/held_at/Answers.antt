@@ -1,28 +1,21 @@
-use Rattle.std.proofs.Common.{sym, ◌∙◌, arith}
-use Rattle.std.proofs.lemmas.Bool.{cond-true, cond-false}
-use Rattle.protocol.specs.Cells.{empty, holds}
-use Rattle.stages.proofs.Places.{contents_read, contents_edge}
+use Rattle.std.proofs.Common.{ℕ, ◌≤◌, Bool, true, false, length, Some, None, sym, ◌∙◌, arith}
+use Rattle.std.proofs.lemmas.Grind.{common_steps}
+use Rattle.std.specs.Bool.{then_some}
+use Rattle.stages.proofs.Places.{read_cell, read_edge}
 use Rattle.stages.proofs.cells.held_at.Goals as goal
 
-pub returns-then-place-eq0 : goal.returns-then-place-eq0
-returns-then-place-eq0 g c = record { value = contents_edge c.args.cells.now c.args.place c.then-place-eq0.either; inside = tt }
+pub returns-in_err-cell-clause-value : goal.returns-in_err-cell-clause-value
+returns-in_err-cell-clause-value g c =
+    c.from_residual.ensures ∙ sym (read_edge c.args.cells.now c.args.place (sym c.cell_at.ensures ∙ c.in_err-cell.was)).0
 
-pub returns-then-c : goal.returns-then-c
-returns-then-c g c =
-    let x = c.index-cells-place.result in
-    record {
-      value =
-          sym (cond-true x.occupied (holds x.key) empty c.if-c.true)
-          ∙ contents_read c.args.cells.now c.args.place x (omega arith) (omega arith) c.index-cells-place.is;
-      inside = omega arith;
-    }
+inside_if : {K : Type 0} (b : Bool) (k : K) (p n : ℕ) → p ≤ n → elim (then_some b k) as (λ o. Type 0) [ None ↦ Unit {0} | Some x ↦ p ≤ n ]
+inside_if true k p n h = h
+inside_if false k p n h = tt
 
-pub returns-else-c : goal.returns-else-c
-returns-else-c g c =
-    let x = c.index-cells-place.result in
+pub returns : goal.returns
+returns g c =
+    let e = read_cell c.args.cells.now c.args.place c.in_ok-cell.cell (sym c.cell_at.ensures ∙ c.in_ok-cell.was) in
     record {
-      value =
-          sym (cond-false x.occupied (holds x.key) empty c.if-c.false)
-          ∙ contents_read c.args.cells.now c.args.place x (omega arith) (omega arith) c.index-cells-place.is;
-      inside = tt;
+      value = grind (arith, common_steps, e);
+      inside = rw c.then_some.ensures (inside_if c.in_ok-cell.cell.occupied c.in_ok-cell.cell.key c.args.place (length c.args.cells.now) e.2);
     }
