@@ -5,7 +5,7 @@ use Rattle.text.specs.Lines.{lines}
 use Rattle.names.specs.declared.Fault.{Fault}
 use Rattle.names.specs.declared.Name.{Name}
 use Rattle.names.specs.Digits.{name_order}
-use Rattle.names.specs.Reading.{refusal_number, reading}
+use Rattle.names.specs.Reading.{fault_text, reading}
 use Rattle.name_list.specs.declared.Answer.{Answer}
 use Rattle.name_list.specs.declared.Answer.TheVariants.{New, Same, Refused}
 use Rattle.name_list.specs.declared.Tally.{Tally}
@@ -58,7 +58,7 @@ tally_of xs = record { lines = length xs; names = count_by is_new xs; refusals =
 abbrev pub written : Answer → List ℕ
 written New = codes "NEW"
 written (Same n) = codes "SAME " ++ decimal n
-written (Refused f) = codes "REFUSED " ++ (decimal (refusal_number f.reason) ++ (codes " " ++ decimal f.place))
+written (Refused f) = fault_text f
 
 abbrev pub tallied : Tally → List ℕ
 tallied t = decimal t.lines ++ (codes " lines, " ++ (decimal t.names ++ (codes " names, " ++ (decimal t.refusals ++ codes " refusals"))))

@@ -45,11 +45,7 @@ impl fmt::Display for Answer {
         match *self {
             Answer::New => write!(f, "NEW"),
             Answer::Same(line) => write!(f, "SAME {line}"),
-            Answer::Refused(fault) => {
-                let number = fault.number();
-                let place = fault.place;
-                write!(f, "REFUSED {number} {place}")
-            }
+            Answer::Refused(fault) => write!(f, "{fault}"),
         }
     }
 }
