@@ -44,11 +44,6 @@ const LENGTHS: [Case; 8] = [
     ),
 ];
 
-#[test]
-fn names_have_1_to_24_letters(rt: HostRuntime) {
-    check(&rt, &LENGTHS);
-}
-
 // The single letters of ASCII, and their neighbours.
 const ASCII: [Case; 24] = [
     (None, b" "),
@@ -77,11 +72,6 @@ const ASCII: [Case; 24] = [
     (Some((10, 0)), b"\x7f"),
 ];
 
-#[test]
-fn single_letters_of_ascii(rt: HostRuntime) {
-    check(&rt, &ASCII);
-}
-
 // The letters that carry no mark.
 const SINGLES: [Case; 16] = [
     (None, b"\xc3\x86"),
@@ -101,11 +91,6 @@ const SINGLES: [Case; 16] = [
     (None, b"\xc5\x92"),
     (None, b"\xc5\x93"),
 ];
-
-#[test]
-fn letters_that_carry_no_mark(rt: HostRuntime) {
-    check(&rt, &SINGLES);
-}
 
 // The code points from 00C0 to 017F that are not listed, and their neighbours outside.
 const UNLISTED: [Case; 18] = [
@@ -128,11 +113,6 @@ const UNLISTED: [Case; 18] = [
     (Some((10, 0)), b"\xc2\xbf"),
     (Some((10, 0)), b"\xc6\x80"),
 ];
-
-#[test]
-fn code_points_that_are_not_listed(rt: HostRuntime) {
-    check(&rt, &UNLISTED);
-}
 
 // Each mark on a plain letter, and its neighbours that are no marks of names.
 const MARKED: [Case; 22] = [
@@ -160,11 +140,6 @@ const MARKED: [Case; 22] = [
     (Some((10, 1)), b"q\xcd\x81"),
 ];
 
-#[test]
-fn marks_on_a_plain_letter(rt: HostRuntime) {
-    check(&rt, &MARKED);
-}
-
 // Each mark alone.
 const LOOSE: [Case; 13] = [
     (Some((11, 0)), b"\xcc\x80"),
@@ -181,11 +156,6 @@ const LOOSE: [Case; 13] = [
     (Some((11, 0)), b"\xcc\xa7"),
     (Some((11, 0)), b"\xcc\xa8"),
 ];
-
-#[test]
-fn marks_alone(rt: HostRuntime) {
-    check(&rt, &LOOSE);
-}
 
 // A mark on a letter that may not carry one, and a second mark.
 const BARRED: [Case; 26] = [
@@ -217,11 +187,6 @@ const BARRED: [Case; 26] = [
     (None, b"e\xcc\x81f\xcc\x81"),
 ];
 
-#[test]
-fn marks_on_other_letters(rt: HostRuntime) {
-    check(&rt, &BARRED);
-}
-
 // A mark after the 24th letter is no 25th letter; for one code point 9 and 10 come before 12.
 const FULL: [Case; 9] = [
     (None, b"AAAAAAAAAAAAAAAAAAAAAAAe\xcc\x81"),
@@ -234,11 +199,6 @@ const FULL: [Case; 9] = [
     (Some((12, 24)), b"AAAAAAAAAAAAAAAAAAAAAAAA\xc3\xa9"),
     (Some((11, 24)), b"AAAAAAAAAAAAAAAAAAAAAAA \xcc\x81"),
 ];
-
-#[test]
-fn after_the_24th_letter(rt: HostRuntime) {
-    check(&rt, &FULL);
-}
 
 // The edges of well-formed UTF-8: well-formed is 10, as no such code point is listed.
 const WELL_FORMED: [Case; 16] = [
@@ -259,11 +219,6 @@ const WELL_FORMED: [Case; 16] = [
     (Some((10, 0)), b"\xf4\x80\x80\x80"),
     (Some((10, 0)), b"\xf4\x8f\xbf\xbf"),
 ];
-
-#[test]
-fn edges_of_well_formed_utf8(rt: HostRuntime) {
-    check(&rt, &WELL_FORMED);
-}
 
 // Continuation bytes, overlong forms, surrogates, above 10FFFF, bytes that never occur.
 const ILL_FORMED: [Case; 18] = [
@@ -286,11 +241,6 @@ const ILL_FORMED: [Case; 18] = [
     (Some((9, 0)), b"\xfe"),
     (Some((9, 0)), b"\xff"),
 ];
-
-#[test]
-fn bytes_that_begin_no_code_point(rt: HostRuntime) {
-    check(&rt, &ILL_FORMED);
-}
 
 // Truncated sequences, and a byte that does not continue one.
 const TRUNCATED: [Case; 22] = [
@@ -318,11 +268,6 @@ const TRUNCATED: [Case; 22] = [
     (Some((9, 0)), b"\xc3\xc0"),
 ];
 
-#[test]
-fn truncated_sequences(rt: HostRuntime) {
-    check(&rt, &TRUNCATED);
-}
-
 // The place is that of the first byte of the faulty code point, and the first one decides.
 const PLACES: [Case; 12] = [
     (Some((9, 1)), b"A\xff"),
@@ -339,9 +284,29 @@ const PLACES: [Case; 12] = [
     (Some((10, 0)), b"\xe1\xb8\x88"),
 ];
 
+const CASES: [&[Case]; 12] = [
+    &LENGTHS,
+    &ASCII,
+    &SINGLES,
+    &UNLISTED,
+    &MARKED,
+    &LOOSE,
+    &BARRED,
+    &FULL,
+    &WELL_FORMED,
+    &ILL_FORMED,
+    &TRUNCATED,
+    &PLACES,
+];
+
 #[test]
-fn places_of_refusals(rt: HostRuntime) {
-    check(&rt, &PLACES);
+fn reads_and_refuses(rt: HostRuntime) {
+    let mut count: usize = 0;
+    for cases in CASES {
+        check(&rt, cases);
+        count = count.saturating_add(cases.len());
+    }
+    assert_eq!(rt; count, 204);
 }
 
 // Each composed letter, with its base and its combining mark, from the Unicode data.

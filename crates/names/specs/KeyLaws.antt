@@ -52,10 +52,14 @@ home_by_word : (x : Name) (n : ℕ) → name_home x n ≡ share 1048576 (x.high 
 unfolding name_home
 home_by_word x n = ap (λ k. share 1048576 k n) (first_two_lem x)
 
-pub home_by_two : (x : Name) (n : ℕ) → share 1048576 (first_two x) n ≡ name_home x n
-home_by_two x n =
+pub home_by_two : (x : Name) (n : ℕ) → first_two x * n / 1048576 ≡ name_home x n
+home_by_two x n = sym (home_by_word x n)
+
+-- the same by the share of the cells: the first two digits are below 1,048,576
+pub home_by_share : (x : Name) (n : ℕ) → share 1048576 (first_two x) n ≡ name_home x n
+home_by_share x n =
     let m : min (first_two x) 1048575 ≡ first_two x = omega arith in
-    ap (λ k. k * n / 1048576) m ∙ sym (home_by_word x n)
+    ap (λ k. k * n / 1048576) m ∙ home_by_two x n
 
 -- the laws, of the words
 words_itself : (x : Name) → by_words x x ≡ Equal
