@@ -487,7 +487,7 @@ fn spellings_agree(rt: HostRuntime) -> Result<(), Fail> {
     Ok(())
 }
 
-// The UTF-8 of a code point from 0080 to 07FF.
+// The UTF-8 of a code point from 0080 to 07FF, as an array: `char::encode_utf8` would fill a buffer beside it.
 fn two_bytes(c: u16) -> [u8; 2] {
     [0xc0 | ((c >> 6) & 0x1f) as u8, 0x80 | (c & 0x3f) as u8]
 }

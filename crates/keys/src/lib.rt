@@ -1,7 +1,7 @@
 //! Kinds of key: what every key of the register can do, and two kinds, type numbers and trays.
 #![tactic(auto)]
 
-ghost use Rattle.std.specs.Prelude.{◌≡◌, ℕ, ◌<◌, Some, decimal};
+ghost use Rattle.std.specs.Prelude.{◌≡◌, ℕ, ◌+◌, Some, decimal};
 ghost use Rattle.std.specs.declared.cmp.Ordering.{Ordering};
 ghost use Rattle.keys.specs.Laws.{Laws};
 ghost use Rattle.keys.specs.Kinds.{by_size, share, type_order, type_home, tray_order, tray_home, tray_of, refusal_number, refusal_text};
@@ -19,6 +19,7 @@ use std::fmt;
 ///
 /// The register keeps its cells in ascending order, each key as near to its home as the others allow.
 /// Every kind shows the laws of `specs/Laws.antt`; code over a kind is proved from them alone.
+// No `Ord`: the laws are of this comparison and the home together, as the rules state them of a kind.
 pub trait Key: Copy {
     ghost order: { Self → Self → Ordering };
 
@@ -35,14 +36,13 @@ pub trait Key: Copy {
     ghost lawful: { Laws order home };
 }
 
-/// How many of `n` cells come before the home of the number `k` among the numbers below `LIMIT`: floor(k × n / LIMIT).
+/// The home among `n` cells of the number `k`, for numbers from 0 to `LAST`: floor(k × n / (LAST + 1)).
 ///
-/// A number from `LIMIT` on has the home of `LIMIT - 1`.
-pub fn share<const LIMIT: u64>(k: u64, n: usize) -> usize
-    requires { 0 < LIMIT }
-    ensures { result ≡ share LIMIT k n }
+/// A number above `LAST` has the home of `LAST`.
+pub fn share<const LAST: u64>(k: u64, n: usize) -> usize
+    ensures { result ≡ share (LAST + 1) k n }
 {
-    (u128::from(k.min(LIMIT - 1)) * n as u128 / u128::from(LIMIT)) as usize
+    (u128::from(k.min(LAST)) * n as u128 / (u128::from(LAST) + 1)) as usize
 }
 
 /// The number of a coin type: any 32-bit number.
@@ -61,7 +61,7 @@ impl Key for TypeNumber {
     }
 
     fn home(self, n: usize) -> usize {
-        share::<4_294_967_296>(u64::from(self.0), n)
+        share::<4_294_967_295>(u64::from(self.0), n)
     }
 }
 
@@ -135,6 +135,6 @@ impl Key for Tray {
 
     /// A number above 999, which no call makes, has the home of 999.
     fn home(self, n: usize) -> usize {
-        share::<1000>(u64::from(self.number), n)
+        share::<999>(u64::from(self.number), n)
     }
 }

@@ -1,4 +1,4 @@
--- A list of names, one to a line: its lines, and what each is answered.
+-- A list of names, one to a line: what each line is answered.
 use Rattle.std.specs.Prelude.{ℕ, ◌+◌, Bool, true, false, cond, List, [], ◌∷◌, ◌++◌, length, count_by, Some, None, Ok, Err, codes, decimal, Option, Result}
 use Rattle.std.specs.Ordering.{is_eq}
 use Rattle.text.specs.Lines.{lines}
@@ -40,7 +40,7 @@ answers_after before (l ∷ ls) = answer_to before l ∷ answers_after (before +
 abbrev pub answers_to : List ℕ → List Answer
 answers_to bs = answers_after [] (lines 65536 bs)
 
--- how many lines were new, and how many refused
+-- whether a line was new, and whether it was refused
 abbrev pub is_new : Answer → Bool
 is_new New = true
 is_new (Same n) = false
@@ -51,6 +51,7 @@ is_refused New = false
 is_refused (Same n) = false
 is_refused (Refused f) = true
 
+-- how many lines there were, how many new, and how many refused
 abbrev pub tally_of : List Answer → Tally
 tally_of xs = record { lines = length xs; names = count_by is_new xs; refusals = count_by is_refused xs }
 

@@ -85,6 +85,7 @@ pub fn answer_lines(heap: Global, bytes: &[u8]) -> Result<Report<'_>, AllocError
     let mut first = BTreeMap::new(heap);
     let mut answers = Vec::new(heap);
     let mut lines = Lines::of(bytes);
+    // Taken one by one: what is left after the last line is told too.
     for n in 1..=MOST_LINES {
         let Some(line) = lines.next() else {
             break;

@@ -90,7 +90,7 @@ impl Key for Name {
     }
 
     fn home(self, n: usize) -> usize {
-        keys::share::<1_048_576>(self.first_two(), n)
+        keys::share::<1_048_575>(self.first_two(), n)
     }
 }
 
@@ -135,7 +135,7 @@ impl Ord for Name {
 
 /// The digits of the letters that were read so far, 24 at most: seen as their list.
 ///
-/// They stand in an array, since a name is read without allocating.
+/// They stand in an array: a name is read without allocating, and without a further crate to trust.
 #[derive(Drop)]
 struct Row {
     digits: [u16; 24],
@@ -248,7 +248,7 @@ pub fn read(bytes: &[u8]) -> Result<Name, Fault>
 {
     let mut row = Row::new();
     let mut rest = bytes;
-    // No iterator of code points: it would carry the place beside the bytes and have to stop after a refusal, as `?` does here.
+    // No iterator of code points: it would carry the place beside the bytes and have to end after a refusal, as `?` does here.
     while !rest.is_empty() {
         let place = bytes.len() - rest.len();
         let (c, tail) = utf8::first(rest).ok_or(Fault {

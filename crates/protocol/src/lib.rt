@@ -21,6 +21,7 @@ use std::fmt;
 /// One cell of the caller's memory: empty or occupied by a key, marked or unmarked.
 ///
 /// An empty cell has a key too, a filler that counts as none.
+// So the key is no `Option`: by the rules the filler is written there.
 #[derive(Clone, Copy, PartialEq, Eq, Debug)]
 pub struct Cell<K> {
     pub key: K,
@@ -74,6 +75,7 @@ pub enum Direction {
 /// Where a station stands with its entry: places, boundaries, and the answer once there is one.
 ///
 /// `left` and `right` are the boundaries, the nearest empty cells on either side of home or else the edges.
+// Two fields and no struct of both: the public stages are named as the rules name them, each with what it carries.
 #[derive(Clone, Copy, PartialEq, Eq, Debug)]
 pub enum Stage {
     /// No entry.
@@ -138,6 +140,7 @@ pub enum Stage {
 }
 
 /// A station's record: the key being entered and its stage. An idle station keeps its last key.
+// A withdrawn entry goes on through the same stages, so `withdrawn` stands beside the stage.
 #[derive(Clone, Copy, PartialEq, Eq, Debug)]
 pub struct Station<K> {
     pub key: K,

@@ -8,7 +8,7 @@ use Rattle.protocol.specs.Cells.{Content, empty, holds, nth}
 use Rattle.protocol.specs.Stages.{Standing, resting, homing, under_way, done}
 use Rattle.protocol.specs.Calls.{Result, Ok, Err, bad_count}
 
--- a check that refuses, if it does
+-- refused with e where b holds
 abbrev pub refused_when : Bool → Refusal → Result (Unit {0}) Refusal
 refused_when b e = cond b (Err e) (Ok tt)
 

@@ -12,7 +12,7 @@ use keys::Key;
 use protocol::{Answer, Cell, Departure, Progress, Refusal, Stage, Station};
 use stages::{Entry, held_at, holds_mark, is_busy, progress, settle, stays_withdrawn, wrong_size};
 
-// The number of cells and the register's number stay two parameters beside the records: those are the caller's, lent for the one call.
+// By a rule of the project the register's methods pass what they hold on to functions: here the number of cells and its own number.
 
 /// A beginning, of `n` cells.
 pub fn begin<K: Key>(
@@ -141,9 +141,5 @@ pub fn key_at<K: Key>(cells: &mut [Cell<K>], i: usize) -> Option<K>
     if wrong_size(cells.len()) {
         return None;
     }
-    if i < cells.len() {
-        held_at(cells, i + 1)
-    } else {
-        None
-    }
+    held_at(cells, i.checked_add(1)?)
 }

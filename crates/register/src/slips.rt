@@ -36,6 +36,7 @@ impl Slip {
     pub(crate) fn spend<A>(self, said: Result<A, Refusal>) -> Result<A, Refused>
         ensures { result ≡ back self said }
     {
+        // No `map_err`: the slip has to end in the other case too.
         match said {
             Ok(answer) => {
                 let Slip {

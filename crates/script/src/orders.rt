@@ -1,7 +1,7 @@
 //! The lines of a script.
 ghost use Rattle.std.specs.Prelude.{◌≡◌, Some};
 ghost use Rattle.script.specs.declared.orders.Fault.TheVariants.{NoTray};
-ghost use Rattle.script.specs.Orders.{order_text, fault_text, verb_of, station_in, tray_in, begin_in, order_by, line_in};
+ghost use Rattle.script.specs.Orders.{order_text, fault_text, station_in, tray_in, begin_in, order_in, line_in};
 
 use keys::{AboveLimit, Tray};
 use std::error::Error;
@@ -70,31 +70,6 @@ impl From<AboveLimit> for Fault {
     }
 }
 
-// The first word of an order.
-#[derive(Clone, Copy)]
-enum Verb {
-    Begin,
-    Step,
-    Collect,
-    Withdraw,
-    Enter,
-    Show,
-}
-
-fn verb_of(word: &[u8]) -> Option<Verb>
-    ensures { result ≡ verb_of word.now }
-{
-    match word {
-        b"begin" => Some(Verb::Begin),
-        b"step" => Some(Verb::Step),
-        b"collect" => Some(Verb::Collect),
-        b"withdraw" => Some(Verb::Withdraw),
-        b"enter" => Some(Verb::Enter),
-        b"show" => Some(Verb::Show),
-        _ => None,
-    }
-}
-
 fn station_in(word: &[u8]) -> Result<usize, Fault>
     ensures { result ≡ station_in word.now }
 {
@@ -120,37 +95,37 @@ fn begin_in(words: &[u8]) -> Result<Order, Fault>
     Ok(Order::Begin { station, tray })
 }
 
-// An order, by its first word and the rest.
-fn order_by(verb: Verb, rest: &[u8]) -> Result<Order, Fault>
-    ensures { result ≡ order_by verb rest.now }
+// An order, by its first word and what follows it.
+fn order_in(word: &[u8], rest: &[u8]) -> Result<Order, Fault>
+    ensures { result ≡ order_in word.now rest.now }
 {
-    match verb {
-        Verb::Begin => begin_in(rest),
-        Verb::Step => Ok(Order::Step {
+    let order = match word {
+        b"begin" => return begin_in(rest),
+        b"step" => Order::Step {
             station: station_in(rest)?,
-        }),
-        Verb::Collect => Ok(Order::Collect {
+        },
+        b"collect" => Order::Collect {
             station: station_in(rest)?,
-        }),
-        Verb::Withdraw => Ok(Order::Withdraw {
+        },
+        b"withdraw" => Order::Withdraw {
             station: station_in(rest)?,
-        }),
-        Verb::Enter => Ok(Order::Enter {
+        },
+        b"enter" => Order::Enter {
             tray: tray_in(rest)?,
-        }),
-        Verb::Show if rest.is_empty() => Ok(Order::Show),
-        Verb::Show => Err(Fault::Malformed),
-    }
+        },
+        b"show" if rest.is_empty() => Order::Show,
+        _ => return Err(Fault::Malformed),
+    };
+    Ok(order)
 }
 
 /// What a line orders. An empty line, or one that begins with a number sign, orders nothing.
 pub fn parse(line: &[u8]) -> Result<Option<Order>, Fault>
     ensures { result ≡ line_in line.now }
 {
-    if line.is_empty() || line[0] == b'#' {
+    if let [] | [b'#', ..] = line {
         return Ok(None);
     }
     let (word, rest) = first_word(line);
-    let verb = verb_of(word).ok_or(Fault::Malformed)?;
-    Ok(Some(order_by(verb, rest)?))
+    Ok(Some(order_in(word, rest)?))
 }

@@ -20,9 +20,10 @@ use std::alloc::{AllocError, Global};
 /// A register of trays with four stations, and the slips in hand, one place for each station.
 ///
 /// Each slip in hand can be spent, and `settle` spends what is left. A session ends with no slip in hand.
+// Tried: one definition of the memory behind a session. The file that declares the struct cannot cite a definition that names it.
 pub struct Session<'a> {
     pub(crate) register: Register<'a, Tray>,
-    // The records stay an array of their own beside the slips: a register takes a slice of records.
+    // The records are an array of their own beside the slips: a register takes a slice of records.
     pub(crate) stations: [Station<Tray>; 4],
     pub(crate) slips: [Option<Slip>; 4],
     ghost four: { length slips ≡ 4 },

@@ -65,6 +65,7 @@ fn told(replies: &[Reply], answer: Answer) -> usize
     replies.iter().filter(|reply| reply.tells(answer)).count()
 }
 
+// A function for each test: five chains in one body are more than the search follows.
 fn refused(replies: &[Reply]) -> usize
     ensures { result ≡ count_by is_refusal replies.now }
 {
