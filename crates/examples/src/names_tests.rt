@@ -5,10 +5,7 @@ use std::test::Fail;
 
 // The number and the place of a refusal, none where a name is read.
 fn refusal(r: Result<Name, Fault>) -> Option<(u8, usize)> {
-    match r {
-        Ok(_) => None,
-        Err(fault) => Some((fault.number(), fault.place)),
-    }
+    r.err().map(|fault| (fault.number(), fault.place))
 }
 
 // The number and the place of the refusal, none where a name is read, and the bytes.

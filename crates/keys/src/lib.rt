@@ -80,6 +80,7 @@ impl AboveLimit {
     pub const fn number(self) -> u8
         ensures { result ≡ refusal_number self }
     {
+        // A struct without fields has no discriminant to tell.
         13
     }
 }

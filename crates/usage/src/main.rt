@@ -5,7 +5,7 @@ use keys::Tray;
 use protocol::{Answer, Cell, Departure, Refusal, Station};
 use register::{Refused, Register, open};
 
-/// What the entry of one slip came to.
+/// What the entry of one slip came to. Neither end is an error, so this is no `Result`.
 enum Outcome {
     Collected(Answer),
     Withdrawn(Departure),
