@@ -7,7 +7,7 @@ use Rattle.std.proofs.lemmas.List.{take_more, take_more_set}
 use Rattle.names.specs.declared.Reason.TheVariants.{LooseMark, Length}
 use Rattle.names.specs.Decomposition.{canonical}
 use Rattle.names.specs.Utf8.{inside}
-use Rattle.names.specs.Letters.{Letter, mark_number, letter_number, plain_number, letter_by, letter_of, digit, digit_by, TableRule}
+use Rattle.names.specs.Letters.{Letter, mark_number, letter_number, plain_number, letter_by, letter_of, digit, bare, digit_by, TableRule}
 use Rattle.names.specs.Reading.{fault, marked, lettered, stepped}
 use Rattle.names.specs.Progress.{unless_zero, bare_digit, letter_at, letters_in}
 use Rattle.names.proofs.Tables.{table_facts, mark_most, number_most, table_gives, canonical_outside, number_outside}
@@ -58,6 +58,12 @@ by_letter xs c p h = grind (arith, nat_tests)
 letter_digit : (x : Letter) → Good x → letter_at (digit x) ≡ x
 letter_digit x g = grind (arith, g.mark)
 
+bare_digit_lem : (x : Letter) → x.mark ≤ 13 → bare_digit (digit x) ≡ bare x
+bare_digit_lem x h = grind (arith, nat_tests)
+
+bare_at : (d : ℕ) → bare (letter_at d) ≡ bare_digit d
+bare_at d = let e : digit (letter_at d) ≡ d = omega arith in sym (bare_digit_lem (letter_at d) (omega arith)) ∙ ap bare_digit e
+
 letters_more : (ds : List ℕ) (d : ℕ) → letters_in (ds ++ d ∷ []) ≡ letter_at d ∷ letters_in ds
 unfolding letters_in
 letters_more ds d = grind (arith, common_steps)
@@ -68,10 +74,10 @@ letters_length ds = grind (arith, common_steps)
 
 -- a mark on the last letter
 mark_last : (ds : List ℕ) (d m place : ℕ) → m ≤ 13 → bare_digit d ≡ true → marked (letters_in (ds ++ d ∷ [])) m place ≡ Ok (letters_in (ds ++ (d + m) ∷ []))
-mark_last ds d m place h t = rw (letters_more ds d, letters_more ds (d + m)) (grind (arith, nat_tests))
+mark_last ds d m place h t = rw (letters_more ds d, letters_more ds (d + m), bare_at d, t) (grind (arith, nat_tests))
 
 mark_loose : (ds : List ℕ) (d m place : ℕ) → bare_digit d ≡ false → marked (letters_in (ds ++ d ∷ [])) m place ≡ Err (fault LooseMark place)
-mark_loose ds d m place t = rw (letters_more ds d) (grind (arith, nat_tests))
+mark_loose ds d m place t = rw (letters_more ds d, bare_at d, t) refl
 
 -- the same of a row, whose n-th digit is its last one
 pub last_marked : (xs : List ℕ) (k n m place : ℕ) → k ≡ n + 1 → n < length xs → m ≤ 13 → bare_digit (get_or xs n 0) ≡ true
