@@ -14,9 +14,6 @@ use Rattle.name_list.specs.Seen.{Lawful, line_in, first_or, line_if, Noted}
 equal_names : (x y : Name) → is_eq (name_order x y) ≡ true → x ≡ y
 equal_names x y = (equality_decides x y (is_eq (name_order x y)) refl).0
 
-same_test : (x y : Name) → x ≡ y → is_eq (name_order x y) ≡ true
-same_test x y = (equality_decides x y (is_eq (name_order x y)) refl).1
-
 -- a line whose name has come before changes nothing
 kept : (l n : ℕ) (x y : Name) (b : Bool) (o : Option ℕ) → is_eq (name_order x y) ≡ b → (x ≡ y → o ≡ Some l) → o ≡ first_or o (cond b (Some n) None)
 kept l n x y b (Some k) e h = refl

@@ -4,7 +4,8 @@ ghost use Rattle.std.specs.Option.{option_map};
 ghost use Rattle.names.specs.Letters.{digit, letter_of, letter_by, letter_number, mark_number, TableRule};
 ghost use Rattle.names.specs.Progress.{bare_digit, unless_zero};
 
-// The digits of the code points from 00C0 to 017F, 0 for one that is not listed: the numbers that `TableRule` speaks of.
+// The digits of the code points from 00C0 to 017F, 0 for one that is not listed. They are no options: `TableRule` is stated of a list of
+// numbers.
 const DIGITS: [u16; 192] = [
     71, 72, 73, 74, 78, 79, 798, 110, 127, 128, 129, 134, 183, 184, 185, 190, // 00C0
     812, 256, 267, 268, 269, 270, 274, 0, 826, 351, 352, 353, 358, 408, 840, 854, // 00D0

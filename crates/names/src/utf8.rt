@@ -4,7 +4,8 @@ ghost use Rattle.names.specs.Utf8.{first, continues, fits3, fits4};
 
 // The first code point of some bytes and the bytes that follow it, none where they are ill-formed at their start.
 //
-// Not by std's `from_utf8`, which tells of a whole text: here the first faulty code point decides, ill-formed or not listed.
+// Not by std's `from_utf8` or `utf8_chunks`, which tell of a whole text: here the first faulty code point decides, ill-formed or not
+// listed, so the rules and the theorem speak of one code point at a time.
 pub(crate) fn first(bytes: &[u8]) -> Option<(u32, &[u8])>
     ensures { MatchOption result (first bytes.now ≡ None) (λ p. first bytes.now ≡ Some (p.0, p.1.now)) }
 {

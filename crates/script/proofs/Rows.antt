@@ -1,9 +1,9 @@
 -- The cells as they are printed, one after the other.
-use Rattle.std.proofs.Common.{◌≡◌, ℕ, ◌+◌, ◌<◌, ◌≤◌, List, [], ◌∷◌, ◌++◌, length, get_or, take, codes, sym, ap, ◌∙◌, append_assoc, append-nil, take_all}
+use Rattle.std.proofs.Common.{◌≡◌, ℕ, ◌+◌, ◌<◌, List, [], ◌∷◌, ◌++◌, length, get_or, take, codes, sym, ap, ◌∙◌, append_assoc, append-nil}
 use Rattle.std.proofs.lemmas.List.{take_more}
 use Rattle.keys.specs.declared.Tray.{Tray}
 use Rattle.protocol.specs.declared.Cell.{Cell}
-use Rattle.script.specs.Shown.{cell_text, spaced, row_text}
+use Rattle.script.specs.Shown.{cell_text, spaced}
 
 spaced_push : (cs : List (Cell Tray)) (c : Cell Tray) → spaced (cs ++ c ∷ []) ≡ spaced cs ++ (codes " " ++ cell_text c)
 spaced_push [] c = ap (λ (x : List ℕ). codes " " ++ x) (append-nil (cell_text c))
@@ -19,6 +19,3 @@ row_more cs i text text' c h t q =
     ∙ append_assoc (codes "cells:") (spaced (take i cs)) (codes " " ++ cell_text (get_or cs i c))
     ∙ ap (λ (x : List ℕ). codes "cells:" ++ x) (sym (spaced_push (take i cs) (get_or cs i c)))
     ∙ ap (λ (x : List (Cell Tray)). codes "cells:" ++ spaced x) (sym (take_more cs i c h))
-
-pub row_all : (cs : List (Cell Tray)) (i : ℕ) (text : List ℕ) → length cs ≤ i → text ≡ codes "cells:" ++ spaced (take i cs) → text ≡ row_text cs
-row_all cs i text h t = t ∙ ap (λ (x : List (Cell Tray)). codes "cells:" ++ spaced x) (take_all i cs h)

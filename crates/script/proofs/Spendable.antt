@@ -21,7 +21,7 @@ use Rattle.register.proofs.Holders.{Open, open_spendable, spendable_open, Elsewh
 use Rattle.script.specs.declared.replies.Reply.{Reply}
 use Rattle.script.specs.declared.replies.Reply.TheVariants.{Begun, Stepped, Told, Withdrawn, Refused as RefusedWith, NoSlip, Shown, Nothing, Faulty}
 use Rattle.script.specs.Hands.{held_at, Held, one_if, slips_left}
-use Rattle.script.specs.Sessions.{After, reply, without_slip, collected_by, collected, withdrawn_by, withdrawn}
+use Rattle.script.specs.Sessions.{After, reply, without_slip, withdrawn_by, withdrawn}
 
 both_true : (a b : Bool) → (a && b) ≡ true → (a ≡ true) × (b ≡ true)
 both_true true b e = (refl, e)
@@ -71,10 +71,6 @@ changed w w' slips slips' s o is e own h = subst (Held w') (sym is) (λ j. at j 
 -- there are as many places as before
 pub as_many : (slips slips' : List (Option Slip)) (s n : ℕ) (o : Option Slip) → slips' ≡ set slips s o → length slips ≡ n → length slips' ≡ n
 as_many slips slips' s n o is l = ap length is ∙ length-set slips s o ∙ l
-
--- a place is emptied
-pub held_picked : (w : World Tray) (slips slips' : List (Option Slip)) (s : ℕ) → Held w slips → slips' ≡ set slips s None → Held w slips'
-held_picked w slips slips' s h q = changed w w slips slips' s None q (record { same_number = refl; same_cells = refl; same_count = refl; others = λ j n. refl }) refl h
 
 module _ (w w' : World Tray) (slips : List (Option Slip)) (h : Held w slips) where
   -- a step of any station, and a whole entry
@@ -163,16 +159,10 @@ emptied [] s = refl
 emptied (x ∷ xs) zero = refl
 emptied (x ∷ xs) (suc s) = emptied xs s
 
-pub taken_empty : (slips slips' : List (Option Slip)) (s : ℕ) → slips' ≡ set slips s None → get_or slips' s None ≡ None
-taken_empty slips slips' s is = ap (λ (hs : List (Option Slip)). get_or hs s None) is ∙ emptied slips s
-
 within : (slips : List (Option Slip)) (s : ℕ) (x : Slip) → Some x ≡ get_or slips s None → s < length slips
 within [] s x e = let z : ◌≡◌ {A = ℕ} 0 1 = cc in absurd (omega arith)
 within (y ∷ ys) zero x e = omega arith
 within (y ∷ ys) (suc s) x e = let l = within ys s x e in omega (arith, l)
-
-pub taken_within : (slips slips' : List (Option Slip)) (s : ℕ) (x : Slip) → Some x ≡ get_or slips s None → slips' ≡ set slips s None → s < length slips'
-taken_within slips slips' s x e is = subst (λ n. s < n) (sym (ap length is ∙ length-set slips s None)) (within slips s x e)
 
 laid_back : (slips : List (Option Slip)) (s : ℕ) (x y : Slip) → Some x ≡ get_or slips s None → y ≡ x → set (set slips s None) s (Some y) ≡ slips
 laid_back slips s x y e q =
@@ -180,14 +170,6 @@ laid_back slips s x y e q =
 
 module _ (w : World Tray) (slips : List (Option Slip)) (s : ℕ) where
   -- no slip of that station is in hand
-  pub none_collected : (slips' : List (Option Slip)) → None ≡ get_or slips s None → slips' ≡ set slips s None → (w, slips', NoSlip) ≡ collected w slips s
-  none_collected slips' e is =
-      ap (λ (hs : List (Option Slip)). (w, hs, NoSlip)) (is ∙ taken_none slips s e) ∙ ap (collected_by w slips s) e
-
-  pub none_withdrawn : (slips' : List (Option Slip)) → None ≡ get_or slips s None → slips' ≡ set slips s None → (w, slips', NoSlip) ≡ withdrawn w slips s
-  none_withdrawn slips' e is =
-      ap (λ (hs : List (Option Slip)). (w, hs, NoSlip)) (is ∙ taken_none slips s e) ∙ ap (withdrawn_by w slips s) e
-
   -- a refused collection: the same slip is in hand again
   module _ (w' : World Tray) (picked slips' : List (Option Slip)) (x : Slip) (b : Refused) (in_hand : Some x ≡ get_or slips s None)
       (q : (w', Err b) ≡ hands_back x (turned tray_order tray_home w (collect x.register x.station))) (is : picked ≡ set slips s None) (laid : slips' ≡ set picked s (Some b.slip)) where
@@ -202,12 +184,6 @@ module _ (w : World Tray) (slips : List (Option Slip)) (s : ℕ) where
     held_not_collected h =
         let same : w' ≡ w = holders.collect_refused (length w.cells) w w' x.register x.station b.refusal given_back.answer in
         subst (Held w') (sym same_slips) (subst (λ (v : World Tray). Held v slips) (sym same) h)
-
-    pub not_collected : (w', slips', RefusedWith b.refusal) ≡ collected w slips s
-    not_collected =
-        ap (λ (hs : List (Option Slip)). (w', hs, RefusedWith b.refusal)) same_slips
-        ∙ ap (λ (o : Out Tray Answer). (o.0, without_slip slips s o.1, reply Told o.1)) given_back.answer
-        ∙ ap (collected_by w slips s) in_hand
 
 -- The slip in hand at station s is withdrawn: none is left there, and there was one unless the reply says so.
 abbrev counted : Reply → ℕ
@@ -265,17 +241,6 @@ one_fewer : (slips : List (Option Slip)) (i : ℕ) → one_if (get_or slips i No
 one_fewer [] i = refl
 one_fewer (o ∷ os) zero = omega arith
 one_fewer (o ∷ os) (suc i) = let e = one_fewer os i in omega arith
-
-pub settling : (slips₀ slips slips' : List (Option Slip)) (i left n : ℕ) → Settling slips₀ slips i left → n ≡ one_if (get_or slips i None) → n ≤ 1 → slips' ≡ set slips i None → Settling slips₀ slips' (i + 1) (left + n)
-settling slips₀ slips slips' i left n g e l is = record {
-  sum = omega (arith, g.sum, e, one_fewer slips i, ap slips_left is);
-  below = λ k h. ap (λ (v : List (Option Slip)). get_or v k None) is ∙ at k h (cases_eq i k);
-  most = omega (arith, g.most);
-}
-  where
-    at : (k : ℕ) → k < i + 1 → (i ≡ k) ⊎ (i ≢ k) → get_or (set slips i None) k None ≡ None
-    at k h (inl q) = subst (λ j. get_or (set slips i None) j None ≡ None) q (emptied slips i)
-    at k h (inr n) = get_or-set_other slips i k None None (λ q. n (sym q)) ∙ g.below k (omega arith)
 
 no_slips : (slips : List (Option Slip)) → ((k : ℕ) → k < length slips → get_or slips k None ≡ None) → slips_left slips ≡ 0
 no_slips [] h = refl

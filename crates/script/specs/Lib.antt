@@ -5,3 +5,4 @@ pub mod Shown
 pub mod Plays
 pub mod Reports
 pub mod Tallies
+pub mod Behind

@@ -7,7 +7,7 @@ use Rattle.script.specs.declared.replies.Reply.{Reply}
 use Rattle.script.specs.declared.replies.Reply.TheVariants.{Begun, Stepped, Told, Withdrawn, Refused, NoSlip, Shown, Nothing, Faulty}
 use Rattle.script.specs.declared.tallies.Tally.{Tally}
 
--- a collection or a whole entry gives this answer
+-- whether two answers are the same
 abbrev pub same_answer : Answer → Answer → Bool
 same_answer Inserted Inserted = true
 same_answer Found Found = true
@@ -19,6 +19,7 @@ same_answer Found Full = false
 same_answer Full Inserted = false
 same_answer Full Found = false
 
+-- a collection or a whole entry gives this answer
 abbrev pub tells : Answer → Reply → Bool
 tells a (Told b) = same_answer a b
 tells a (Refused e) = false
@@ -43,7 +44,7 @@ is_refusal NoSlip = false
 is_refusal Shown = false
 is_refusal Nothing = false
 
--- the line is no order
+-- the line is malformed
 abbrev pub is_malformed : Reply → Bool
 is_malformed (Faulty Malformed) = true
 is_malformed (Faulty (NoTray e)) = false

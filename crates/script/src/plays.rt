@@ -1,7 +1,7 @@
 //! A script is played over a register of trays with four stations.
 ghost use Rattle.std.specs.Prelude.{◌≡◌, ℕ, ◌+◌, length, IfOk, string_bytes};
 ghost use Rattle.text.specs.Lines.{lines_of};
-ghost use Rattle.register.specs.Memory.{behind};
+ghost use Rattle.script.specs.Behind.{memory};
 ghost use Rattle.script.specs.Hands.{slips_left};
 ghost use Rattle.script.specs.Plays.{outcome, Outcome, played, Played, from_opening};
 ghost use Rattle.script.specs.Reports.{Reports};
@@ -22,7 +22,7 @@ fn answer(
     n: usize,
     line: &[u8],
 ) -> Result<(Reply, String), AllocError>
-    ensures { IfOk result (λ p. record { memory = behind session.new.register session.new.stations; slips = session.new.slips; reply = p.0; text = string_bytes p.1 } ≡ outcome (behind session.old.register session.old.stations) session.old.slips n line.now) }
+    ensures { IfOk result (λ p. record { memory = memory session.new; slips = session.new.slips; reply = p.0; text = string_bytes p.1 } ≡ outcome (memory session.old) session.old.slips n line.now) }
 {
     match parse(line) {
         Ok(None) => Ok((Reply::Nothing, String::new(heap))),
@@ -47,7 +47,7 @@ fn run(
     heap: Global,
     script: &[u8],
 ) -> Result<(String, Vec<Reply>), AllocError>
-    ensures { IfOk result (λ p. record { memory = behind session.new.register session.new.stations; slips = session.new.slips; replies = p.1.items; text = string_bytes p.0 } ≡ played (behind session.old.register session.old.stations) session.old.slips 1 (lines_of script.now)) }
+    ensures { IfOk result (λ p. record { memory = memory session.new; slips = session.new.slips; replies = p.1.items; text = string_bytes p.0 } ≡ played (memory session.old) session.old.slips 1 (lines_of script.now)) }
 {
     let mut text = String::new(heap);
     let mut replies = Vec::new(heap);

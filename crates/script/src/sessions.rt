@@ -20,7 +20,6 @@ use std::alloc::{AllocError, Global};
 /// A register of trays with four stations, and the slips in hand, one place for each station.
 ///
 /// Each slip in hand can be spent, and `settle` spends what is left. A session ends with no slip in hand.
-// Tried: one definition of the memory behind a session. The file that declares the struct cannot cite a definition that names it.
 pub struct Session<'a> {
     pub(crate) register: Register<'a, Tray>,
     // The records are an array of their own beside the slips: a register takes a slice of records.
@@ -31,6 +30,9 @@ pub struct Session<'a> {
 }
 
 impl<'a> Session<'a> {
+    // Cited here, as the definition names the struct.
+    ghost use Rattle.script.specs.Behind.{memory};
+
     /// Opens a register over these cells, with no slip in hand.
     pub fn open(cells: &'a mut [Cell<Tray>], number: u32, filler: Tray) -> Session<'a>
         ensures opened { behind result.register result.stations ≡ opening number cells.old (replicate 4 (at_rest filler)) filler }
@@ -47,7 +49,7 @@ impl<'a> Session<'a> {
     }
 
     fn begin(&mut self, station: usize, tray: Tray) -> Reply
-        ensures { (behind self.new.register self.new.stations, self.new.slips, result) ≡ begun (behind self.old.register self.old.stations) self.old.slips station tray }
+        ensures { (memory self.new, self.new.slips, result) ≡ begun (memory self.old) self.old.slips station tray }
     {
         match self.register.begin(&mut self.stations, station, tray) {
             Ok(slip) => {
@@ -59,7 +61,7 @@ impl<'a> Session<'a> {
     }
 
     fn collect(&mut self, station: usize) -> Reply
-        ensures { (behind self.new.register self.new.stations, self.new.slips, result) ≡ collected (behind self.old.register self.old.stations) self.old.slips station }
+        ensures { (memory self.new, self.new.slips, result) ≡ collected (memory self.old) self.old.slips station }
     {
         match pick(&mut self.slips, station) {
             None => Reply::NoSlip,
@@ -74,7 +76,7 @@ impl<'a> Session<'a> {
     }
 
     fn withdraw(&mut self, station: usize) -> Reply
-        ensures { (behind self.new.register self.new.stations, self.new.slips, result) ≡ withdrawn (behind self.old.register self.old.stations) self.old.slips station }
+        ensures { (memory self.new, self.new.slips, result) ≡ withdrawn (memory self.old) self.old.slips station }
     {
         match pick(&mut self.slips, station) {
             None => Reply::NoSlip,
@@ -86,7 +88,7 @@ impl<'a> Session<'a> {
     }
 
     fn step(&mut self, station: usize) -> Reply
-        ensures { (behind self.new.register self.new.stations, self.new.slips, result) ≡ stepped (behind self.old.register self.old.stations) self.old.slips station }
+        ensures { (memory self.new, self.new.slips, result) ≡ stepped (memory self.old) self.old.slips station }
     {
         self.register
             .step(&mut self.stations, station)
@@ -94,7 +96,7 @@ impl<'a> Session<'a> {
     }
 
     fn enter(&mut self, tray: Tray) -> Reply
-        ensures { (behind self.new.register self.new.stations, self.new.slips, result) ≡ entered (behind self.old.register self.old.stations) self.old.slips tray }
+        ensures { (memory self.new, self.new.slips, result) ≡ entered (memory self.old) self.old.slips tray }
     {
         self.register
             .enter(tray)
@@ -103,7 +105,7 @@ impl<'a> Session<'a> {
 
     /// Carries out an order.
     pub fn obey(&mut self, order: Order) -> Reply
-        ensures { (behind self.new.register self.new.stations, self.new.slips, result) ≡ obeyed (behind self.old.register self.old.stations) self.old.slips order }
+        ensures { (memory self.new, self.new.slips, result) ≡ obeyed (memory self.old) self.old.slips order }
     {
         match order {
             Order::Begin { station, tray } => self.begin(station, tray),

@@ -58,6 +58,8 @@ impl Reply {
     }
 }
 
+// A function for each count: five chains in one body are more than the search follows.
+
 // How many entries were given this answer.
 fn told(replies: &[Reply], answer: Answer) -> usize
     ensures { result ≡ count_by (tells answer) replies.now }
@@ -65,7 +67,6 @@ fn told(replies: &[Reply], answer: Answer) -> usize
     replies.iter().filter(|reply| reply.tells(answer)).count()
 }
 
-// A function for each test: five chains in one body are more than the search follows.
 fn refused(replies: &[Reply]) -> usize
     ensures { result ≡ count_by is_refusal replies.now }
 {

@@ -57,7 +57,7 @@ pub fn seen_at<K: Key>(cells: &[Cell<K>], place: usize) -> Sight
     }
 }
 
-// By a rule of the project the walk and the shift are functions over a slice of cells: cells and key are parameters of each.
+// By a rule of the project these three are functions over a slice of cells: cells and key are parameters of each.
 
 /// How the key at a place stands to this one, if the place holds a key.
 pub fn order_at<K: Key>(cells: &[Cell<K>], key: K, place: usize) -> Option<Ordering>

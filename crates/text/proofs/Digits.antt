@@ -19,13 +19,6 @@ goes_on bs i n d r h t q =
     let u : b ≤ 57 = grind (arith, nat_tests) in
     record { goes = r.goes ∙ e ∙ m ∙ ap (λ k. digits_after (n * 10 + k) (drop (i + 1) bs)) (sym q); small = omega (arith, p, u, q, r.small) }
 
-pub stops : (bs : List ℕ) (i n : ℕ) → Reading bs i n → i < length bs → (leb 48 (get_or bs i 0) && leb (get_or bs i 0) 57) ≡ false → numeral bs ≡ None
-stops bs i n r h t =
-    let b = get_or bs i 0 in
-    let e : digits_after n (drop i bs) ≡ digits_after n (b ∷ drop (i + 1) bs) = at_drop_more (digits_after n) bs i 0 h in
-    let d : digits_after n (b ∷ drop (i + 1) bs) ≡ None = rw t refl in
-    r.goes ∙ e ∙ d
-
 pub ends : (bs : List ℕ) (i n : ℕ) → Reading bs i n → length bs ≤ i → numeral bs ≡ Some n
 ends bs i n r h = r.goes ∙ ap (digits_after n) (drop_all i bs h)
 

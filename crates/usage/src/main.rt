@@ -46,7 +46,7 @@ fn run(rt: &HostRuntime) -> anyhow::Result<()> {
         Err(refusal) => println!(rt; "400 by a step: refused with {}", refusal.number())?,
     }
     match register.key_at(1) {
-        Some(key) => println!(rt; "cell 1 holds {}", key.number())?,
+        Some(key) => println!(rt; "cell 1 holds {key}")?,
         None => println!(rt; "cell 1 is empty")?,
     }
     Ok(())
