@@ -99,7 +99,7 @@ impl<'a, K: Key> Register<'a, K> {
     pub fn cells(&self) -> &[Cell<K>]
         ensures { result.now ≡ self.now.cells.now }
     {
-        self.cells
+        &*self.cells
     }
 
     /// The key of a cell, none where it is empty, from the number of cells on, and over 0 cells or more than 65,536. Nothing changes.
