@@ -40,7 +40,7 @@ pub fn first_line(bytes: &[u8]) -> (&[u8], &[u8])
 }
 
 /// The lines of some bytes, each without its end.
-#[derive(Clone, Copy, Debug)]
+#[derive(Clone, Debug, Drop)]
 pub struct Lines<'a> {
     rest: &'a [u8],
 }
