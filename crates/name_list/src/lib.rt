@@ -124,10 +124,17 @@ impl Tally {
     pub fn of(answers: &[Answer]) -> Tally
         ensures { result ≡ tally_of answers.now }
     {
+        // One pass and no `filter` with `count`, which would be a pass for each number.
+        let mut names = 0;
+        let mut refusals = 0;
+        for answer in answers {
+            names += usize::from(answer.is_new());
+            refusals += usize::from(answer.is_refused());
+        }
         Tally {
             lines: answers.len(),
-            names: answers.iter().filter(|answer| answer.is_new()).count(),
-            refusals: answers.iter().filter(|answer| answer.is_refused()).count(),
+            names,
+            refusals,
         }
     }
 }

@@ -6,7 +6,7 @@ ghost use Rattle.script.specs.Orders.{order_text, fault_text, station_in, tray_i
 use keys::{AboveLimit, Tray};
 use std::error::Error;
 use std::fmt;
-use text::{first_word, number};
+use text::{first_word, is, number};
 
 /// What a line of a script orders. A station is known by its number.
 #[derive(Clone, Copy, PartialEq, Eq, Debug)]
@@ -95,25 +95,25 @@ fn begin_in(words: &[u8]) -> Result<Order, Fault>
     Ok(Order::Begin { station, tray })
 }
 
-// An order, by its first word and what follows it.
+// An order, by its first word and what follows it. Words are told apart by `text::is`, so the arms are guards and no patterns.
 fn order_in(word: &[u8], rest: &[u8]) -> Result<Order, Fault>
     ensures { result ≡ order_in word.now rest.now }
 {
     let order = match word {
-        b"begin" => return begin_in(rest),
-        b"step" => Order::Step {
+        _ if is(word, "begin") => return begin_in(rest),
+        _ if is(word, "step") => Order::Step {
             station: station_in(rest)?,
         },
-        b"collect" => Order::Collect {
+        _ if is(word, "collect") => Order::Collect {
             station: station_in(rest)?,
         },
-        b"withdraw" => Order::Withdraw {
+        _ if is(word, "withdraw") => Order::Withdraw {
             station: station_in(rest)?,
         },
-        b"enter" => Order::Enter {
+        _ if is(word, "enter") => Order::Enter {
             tray: tray_in(rest)?,
         },
-        b"show" if rest.is_empty() => Order::Show,
+        _ if is(word, "show") && rest.is_empty() => Order::Show,
         _ => return Err(Fault::Malformed),
     };
     Ok(order)

@@ -1,5 +1,5 @@
 //! What was done: the replies of a script, counted.
-ghost use Rattle.std.specs.Prelude.{◌≡◌, Some, count_by};
+ghost use Rattle.std.specs.Prelude.{◌≡◌, Some};
 ghost use Rattle.script.specs.Tallies.{tells, is_refusal, is_malformed, tally_of, tally_text};
 
 use crate::orders::Fault;
@@ -58,38 +58,30 @@ impl Reply {
     }
 }
 
-// A function for each count: five chains in one body are more than the search follows.
-
-// How many entries were given this answer.
-fn told(replies: &[Reply], answer: Answer) -> usize
-    ensures { result ≡ count_by (tells answer) replies.now }
-{
-    replies.iter().filter(|reply| reply.tells(answer)).count()
-}
-
-fn refused(replies: &[Reply]) -> usize
-    ensures { result ≡ count_by is_refusal replies.now }
-{
-    replies.iter().filter(|reply| reply.is_refusal()).count()
-}
-
-fn malformed(replies: &[Reply]) -> usize
-    ensures { result ≡ count_by is_malformed replies.now }
-{
-    replies.iter().filter(|reply| reply.is_malformed()).count()
-}
-
 impl Tally {
     /// Counts some replies.
     pub fn of(replies: &[Reply]) -> Tally
         ensures { result ≡ tally_of replies.now }
     {
+        // One pass and no `filter` with `count`, which would be a pass for each number.
+        let mut inserted = 0;
+        let mut found = 0;
+        let mut full = 0;
+        let mut refused = 0;
+        let mut malformed = 0;
+        for reply in replies {
+            inserted += usize::from(reply.tells(Answer::Inserted));
+            found += usize::from(reply.tells(Answer::Found));
+            full += usize::from(reply.tells(Answer::Full));
+            refused += usize::from(reply.is_refusal());
+            malformed += usize::from(reply.is_malformed());
+        }
         Tally {
-            inserted: told(replies, Answer::Inserted),
-            found: told(replies, Answer::Found),
-            full: told(replies, Answer::Full),
-            refused: refused(replies),
-            malformed: malformed(replies),
+            inserted,
+            found,
+            full,
+            refused,
+            malformed,
         }
     }
 }
